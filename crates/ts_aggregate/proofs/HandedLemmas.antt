@@ -10,7 +10,7 @@ use Rattle.ts_base.specs.declared.refusal.Refusal.TheVariants.{TooLarge}
 use Rattle.ts_row.specs.declared.kind.Column.{Column}
 use Rattle.ts_row.specs.Element.{Element, seen}
 use Rattle.ts_calendar.proofs.StampLemmas.{int_lt_no, int_lt-false}
-use Rattle.ts_chain.specs.Range.{is_within, within_range}
+use Rattle.ts_sheets.specs.Range.{is_within, within_range}
 use Rattle.ts_offset.specs.Walk.{on_starts}
 use Rattle.ts_offset.specs.Grid.{held_start}
 use Rattle.ts_offset.specs.Counting.{starts_between}

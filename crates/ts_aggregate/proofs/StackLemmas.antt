@@ -8,7 +8,7 @@ use Rattle.ts_space.specs.Place.{count_of}
 use Rattle.ts_row.specs.declared.kind.Column.{Column}
 use Rattle.ts_row.specs.Row.{Row}
 use Rattle.ts_row.specs.Element.{Element}
-use Rattle.ts_chain.specs.Range.{is_within, within_range}
+use Rattle.ts_sheets.specs.Range.{is_within, within_range}
 use Rattle.ts_regular.specs.Places as regular
 use Rattle.ts_regular.proofs.CutsLemmas.{told_count}
 use Rattle.ts_series.proofs.ChainLemmas.{counted}

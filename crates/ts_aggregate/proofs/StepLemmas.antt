@@ -13,8 +13,8 @@ use Rattle.ts_row.specs.Element.{Element, seen}
 use Rattle.ts_row.specs.declared.value.Value.{Value}
 use Rattle.ts_calendar.specs.Plan.{CalendarPlan}
 use Rattle.ts_calendar.specs.Intervals.{IsBefore}
-use Rattle.ts_chain.specs.Chain.{AreEarlier, AreLater}
-use Rattle.ts_chain.proofs.OrderLemmas.{earlier_both, earlier_than, earlier_back}
+use Rattle.ts_sheets.specs.Chain.{AreEarlier, AreLater}
+use Rattle.ts_sheets.proofs.OrderLemmas.{earlier_both, earlier_than, earlier_back}
 use Rattle.ts_offset.specs.Grid.{held_start}
 use Rattle.ts_offset.proofs.OwnLemmas.{from-held}
 use Rattle.ts_entry.specs.Intervals.{Group}

@@ -12,8 +12,8 @@ use Rattle.ts_row.specs.declared.kind.Column.{Column}
 use Rattle.ts_row.specs.Element.{Element}
 use Rattle.ts_cells.specs.IrregularPage.{AreInOrder, AreElements}
 use Rattle.ts_cells.specs.IrregularPage as cells
-use Rattle.ts_chain.specs.Chain.{AreLater}
-use Rattle.ts_chain.proofs.OrderLemmas.{later_of, pages_in_order, rising_tail}
+use Rattle.ts_sheets.specs.Chain.{AreLater}
+use Rattle.ts_sheets.proofs.OrderLemmas.{later_of, pages_in_order, rising_tail}
 use Rattle.ts_regular.specs.Offsets.{OffsetElement, AreRising}
 use Rattle.ts_regular.specs.Places as regular
 use Rattle.ts_regular.proofs.OffsetLemmas.{AreMore}
@@ -27,9 +27,9 @@ use Rattle.ts_offset.specs.declared.shape.Shape.{Shape}
 use Rattle.ts_offset.specs.declared.shape.Shape.TheVariants.{Irregular, Regular}
 use Rattle.ts_offset.proofs.StartLemmas.{on-line}
 use Rattle.ts_offset.proofs.ListedLemmas.{start-listed}
-use Rattle.ts_regular_edits.specs.Stamped.{stamped, HaveStarts}
+use Rattle.ts_sheets.specs.Stamped.{stamped, HaveStarts}
 use Rattle.ts_regular_edits.proofs.StampLemmas.{some_start, stamped_cons}
-use Rattle.ts_regular_edits.proofs.StartLemmas.{stamps_rise}
+use Rattle.ts_sheets.proofs.StartLemmas.{stamps_rise}
 use Rattle.ts_clip.specs.Series.{IsLaidOut, HaveElements}
 use Rattle.ts_aggregate.specs.Groups.{AreOrdered, AreGiven}
 use Rattle.ts_aggregate.proofs.GroupLemmas.{IsOneOf}

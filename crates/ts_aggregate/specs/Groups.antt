@@ -10,7 +10,7 @@ use Rattle.ts_row.specs.Element.{Element, seen}
 use Rattle.ts_row.specs.declared.kind.Column.{Column}
 use Rattle.ts_calendar.specs.Plan.{CalendarPlan}
 use Rattle.ts_calendar.specs.Intervals.{IsBefore, IsLaid}
-use Rattle.ts_chain.specs.Chain.{AreEarlier, AreLater}
+use Rattle.ts_sheets.specs.Chain.{AreEarlier, AreLater}
 use Rattle.ts_offset.specs.Walk.{IsOnStart}
 use Rattle.ts_offset.specs.Grid.{held_start}
 use Rattle.ts_entry.specs.Intervals.{Group, grouped, held_from}

@@ -6,7 +6,7 @@ use Rattle.ts_base.specs.declared.refusal.Refusal.TheVariants as refusals
 use Rattle.ts_row.specs.declared.value.Literal.{Literal}
 use Rattle.ts_row.specs.Row.{Row, marked}
 use Rattle.ts_row.specs.Element.{Element, seen}
-use Rattle.ts_chain.specs.Range.{within_range, without_range}
+use Rattle.ts_sheets.specs.Range.{within_range, without_range}
 use Rattle.ts_model.specs.declared.kind.Kind.TheVariants as kinds
 use Rattle.ts_model.specs.Catalogue.{Elements, Series, Catalogue, columns_of, quota_of, shape_of}
 use Rattle.ts_model.specs.Charge.{container_charge}

@@ -8,8 +8,8 @@ use Rattle.ts_base.specs.declared.refusal.Refusal.TheVariants as refusals
 use Rattle.ts_row.specs.declared.kind.Column.{Column}
 use Rattle.ts_row.specs.declared.value.Literal.{Literal}
 use Rattle.ts_row.specs.Row.{Row, row_of}
-use Rattle.ts_chain.specs.Placing.{place_for}
-pub use Rattle.ts_chain.specs.Placing.{placed}
+use Rattle.ts_sheets.specs.Placing.{place_for}
+pub use Rattle.ts_sheets.specs.Placing.{placed}
 use Rattle.ts_pattern.specs.Plan.{Plan}
 use Rattle.ts_calendar.specs.Plan.{CalendarPlan}
 use Rattle.ts_calendar.specs.declared.text.PatternPart.{PatternPart}

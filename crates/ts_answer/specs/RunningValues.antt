@@ -1,7 +1,7 @@
 -- What routines that go over the elements of a series answer, a row for each: running values of a column, and
 -- expressions. Each tries its refusals in order.
 use Rattle.std.specs.Prelude.{ℕ, ℤ, List, [], ◌∷◌, Ok}
-use Rattle.ts_chain.specs.Range.{within_range}
+use Rattle.ts_sheets.specs.Range.{within_range}
 use Rattle.ts_entry.specs.Reading.{within_rows}
 use Rattle.ts_expr.specs.declared.function.Function.{Function}
 use Rattle.ts_expr.specs.Grammar.{item}

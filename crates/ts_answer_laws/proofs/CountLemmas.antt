@@ -6,7 +6,7 @@ use Rattle.ts_row.specs.declared.value.Value.{Value}
 use Rattle.ts_row.specs.declared.value.Value.TheVariants.{Number}
 use Rattle.ts_row.specs.Row.{Values, Row, visible}
 use Rattle.ts_row.specs.Element.{Element, seen}
-use Rattle.ts_chain.specs.Range.{is_within, within_range}
+use Rattle.ts_sheets.specs.Range.{is_within, within_range}
 use Rattle.ts_offset.specs.declared.shape.Shape.TheVariants as shapes
 use Rattle.ts_entry.specs.Entry.{Entry, filled}
 use Rattle.ts_entry.specs.Reading.{reading}

@@ -18,7 +18,7 @@ use Rattle.ts_offset.specs.declared.shape.Shape.{Shape}
 use Rattle.ts_offset.specs.declared.shape.Shape.TheVariants as shapes
 use Rattle.ts_offset.proofs.OwnLemmas.{from-held}
 use Rattle.ts_irregular.specs.Edit.{last_of}
-use Rattle.ts_chain.specs.Placing.{earlier, last_before, next_second, unit_after, place_for}
+use Rattle.ts_sheets.specs.Placing.{earlier, last_before, next_second, unit_after, place_for}
 use Rattle.ts_command.specs.declared.command.Command.{Command}
 use Rattle.ts_command.specs.declared.command.Command.TheVariants as commands
 use Rattle.ts_model.specs.declared.kind.Kind.TheVariants as kinds

@@ -25,7 +25,7 @@ use Rattle.ts_cells.specs.IrregularPage.{AreElements}
 use Rattle.ts_regular.specs.Cell.{Cell}
 use Rattle.ts_regular.specs.Offsets.{OffsetElement, elements_from}
 use Rattle.ts_regular.specs.RegularPage.{AreCells}
-use Rattle.ts_regular_edits.specs.Stamped.{stamped_one}
+use Rattle.ts_sheets.specs.Stamped.{stamped_one}
 use Rattle.ts_model.specs.declared.kind.Kind.{Kind}
 use Rattle.ts_model.specs.declared.kind.Kind.TheVariants as kinds
 use Rattle.ts_model.specs.declared.def.Def.{Def}

@@ -15,7 +15,7 @@ use Rattle.ts_irregular.proofs.EditLemmas.{without_in_order}
 use Rattle.ts_chain.proofs.ChangeLemmas.{place_first}
 use Rattle.ts_space.specs.declared.moved.Come.TheVariants.{Nothing, One}
 use Rattle.ts_space.specs.Moved.{moved_to}
-use Rattle.ts_chain.specs.Places.{ArePlaces, FitsFirst, FitsLast, IsBeginning, IsCounted, IsHolder}
+use Rattle.ts_sheets.specs.Places.{ArePlaces, FitsFirst, FitsLast, IsBeginning, IsCounted, IsHolder}
 use Rattle.ts_chain.specs.Call.{IsTakenAway}
 use Rattle.ts_chain.specs.Window.{AreOnOne, IsRestOf}
 use Rattle.ts_chain.proofs.FindLemmas.{holder_get}

@@ -23,11 +23,11 @@ use Rattle.ts_irregular.proofs.EditLemmas.{int_lt_yes, int_lt_no}
 use Rattle.ts_irregular.proofs.HeadLemmas.{part_behind, length-page}
 use Rattle.ts_irregular.proofs.SearchLemmas.{rank_less, search_ok, search_err}
 use Rattle.ts_irregular.proofs.SeeLemmas.{behind_told}
-use Rattle.ts_chain.specs.Chain.{all_in, IsChain}
-use Rattle.ts_chain.specs.Places.{AreChained, IsHolder}
-use Rattle.ts_chain.specs.Placing.{next_second, last_before, unit_after, place_for}
+use Rattle.ts_sheets.specs.Chain.{all_in, IsChain}
+use Rattle.ts_sheets.specs.Places.{AreChained, IsHolder}
+use Rattle.ts_sheets.specs.Placing.{next_second, last_before, unit_after, place_for}
 use Rattle.ts_chain.specs.Call.{IsPlaceIn}
-use Rattle.ts_chain.proofs.OrderLemmas.{all_in-append, some_z}
+use Rattle.ts_sheets.proofs.OrderLemmas.{all_in-append, some_z}
 use Rattle.ts_chain.proofs.EditLemmas.{none_later}
 use Rattle.ts_chain.proofs.WindowLemmas.{at_page}
 use Rattle.ts_chain.proofs.PlaceLemmas.{chain_later, holder_around}

@@ -15,12 +15,12 @@ use Rattle.ts_irregular.specs.OnePage.{place_of}
 use Rattle.ts_irregular.specs.Call.{AreKept, ArePut}
 use Rattle.ts_irregular.specs.Call as one
 use Rattle.ts_irregular.proofs.CallerLemmas.{element_in, count_kept}
-use Rattle.ts_chain.specs.Chain.{all_in, IsDense, IsChain}
+use Rattle.ts_sheets.specs.Chain.{all_in, IsDense, IsChain}
 use Rattle.ts_space.specs.Place.{pages_of}
-use Rattle.ts_chain.specs.Places.{AreChained, ArePlaces, IsHolder}
+use Rattle.ts_sheets.specs.Places.{AreChained, ArePlaces, IsHolder}
 use Rattle.ts_chain.specs.Call.{AreWritten, IsMissing, IsChanged}
 use Rattle.ts_chain.proofs.EditLemmas.{at_lower, at_same, with_lower, with_higher, with_same, none_later}
-use Rattle.ts_chain.proofs.DenseLemmas.{dense_front, dense_back, dense_left, dense_right, dense_cons, dense_made, dense_tail, meets_left, meets_right}
+use Rattle.ts_sheets.proofs.DenseLemmas.{dense_front, dense_back, dense_left, dense_right, dense_cons, dense_made, dense_tail, meets_left, meets_right}
 use Rattle.ts_chain.proofs.WindowLemmas.{at_page, with_window}
 use Rattle.ts_chain.proofs.PlaceLemmas.{Cut, chain_later, chained_both, holder_around}
 use Rattle.ts_chain.proofs.PagesLemmas.{changed_page, other_page, page_there, apart_behind, apart_before, chained_other}

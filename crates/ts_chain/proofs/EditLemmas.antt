@@ -5,8 +5,8 @@ use Rattle.ts_row.specs.Row.{Row}
 use Rattle.ts_row.specs.Element.{Element}
 use Rattle.ts_irregular.specs.Edit.{element_at, with_element, without_element}
 use Rattle.ts_irregular.proofs.EditLemmas.{int_lt_yes, int_lt_no}
-use Rattle.ts_chain.specs.Chain.{all_in, AreEarlier, AreLater, IsAround}
-use Rattle.ts_chain.proofs.OrderLemmas.{all_in-append}
+use Rattle.ts_sheets.specs.Chain.{all_in, AreEarlier, AreLater, IsAround}
+use Rattle.ts_sheets.proofs.OrderLemmas.{all_in-append}
 
 -- an earlier element, a later one and one at the stamp
 pub at_lower : (stamp : ℤ) (e : Element) (es : List Element) → e.0 <ℤ stamp → element_at stamp (e ∷ es) ≡ element_at stamp es

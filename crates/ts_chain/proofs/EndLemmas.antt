@@ -16,13 +16,13 @@ use Rattle.ts_cells.specs.Cell.{IsElement, page_room}
 use Rattle.ts_cells.specs.IrregularPage.{AreElements, irregular_page, first_stamp}
 use Rattle.ts_page.specs.Volume.{first_element_page}
 use Rattle.ts_irregular.specs.OnePage.{IsPlace}
-use Rattle.ts_chain.specs.Chain.{all_in, IsDense}
-use Rattle.ts_chain.specs.Places.{AreChained, ArePlaces, FitsFirst, FitsLast, IsTarget}
+use Rattle.ts_sheets.specs.Chain.{all_in, IsDense}
+use Rattle.ts_sheets.specs.Places.{AreChained, ArePlaces, FitsFirst, FitsLast, IsTarget}
 use Rattle.ts_chain.specs.Call.{IsPutNew}
 use Rattle.ts_chain.specs.declared.halves.Halves.{Halves}
 use Rattle.ts_chain.specs.Window.{ArePartedOf, begin_of}
 use Rattle.ts_chain.specs.Halves.{HasBefore, HasBehind, IsJoinedBefore, IsJoinedBehind, AreHalved, IsAlone, CanJoin, CanSpread, IsSpread}
-use Rattle.ts_chain.proofs.DenseLemmas.{MeetsLeft, MeetsRight, dense_left, dense_right, meets_left, meets_right}
+use Rattle.ts_sheets.proofs.DenseLemmas.{MeetsLeft, MeetsRight, dense_left, dense_right, meets_left, meets_right}
 use Rattle.ts_chain.proofs.PagesLemmas.{apart_behind}
 use Rattle.ts_chain.proofs.LessLemmas.{get_next, split_last, meets_before, meets_behind}
 use Rattle.ts_chain.proofs.AnswerLemmas.{split_first}

@@ -10,8 +10,8 @@ use Rattle.ts_row.specs.Element.{Element}
 use Rattle.ts_irregular.specs.Edit.{element_at}
 use Rattle.ts_irregular.specs.OnePage.{IsOn}
 use Rattle.ts_irregular.specs.Call.{IsRowThere}
-use Rattle.ts_chain.specs.Chain.{all_in}
-use Rattle.ts_chain.specs.Places.{AreChained, IsHolder}
+use Rattle.ts_sheets.specs.Chain.{all_in}
+use Rattle.ts_sheets.specs.Places.{AreChained, IsHolder}
 use Rattle.ts_chain.specs.Call.{IsRowIn}
 use Rattle.ts_chain.proofs.EditLemmas.{none_later}
 use Rattle.ts_chain.proofs.WindowLemmas.{at_page}

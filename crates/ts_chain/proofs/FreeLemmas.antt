@@ -10,7 +10,7 @@ use Rattle.ts_space.specs.declared.place.Place.{Place}
 use Rattle.ts_space.specs.Place.{pages_of}
 use Rattle.ts_page.specs.Head.{zero_page}
 use Rattle.ts_page.specs.Pages.{Contents, Freed}
-use Rattle.ts_chain.specs.Places.{CanBeFreed}
+use Rattle.ts_sheets.specs.Places.{CanBeFreed}
 use Rattle.ts_chain.specs.Call.{AreFreed}
 use Rattle.ts_chain.specs.Window.{AreFreedTo}
 use Rattle.ts_chain.proofs.PagesLemmas.{changed_page, other_page, pairs_tail}

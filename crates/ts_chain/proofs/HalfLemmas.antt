@@ -19,15 +19,15 @@ use Rattle.ts_cells.specs.IrregularPage.{AreRising, irregular_page, first_stamp}
 use Rattle.ts_irregular.specs.Edit.{element_at, with_element}
 use Rattle.ts_irregular.specs.OnePage.{IsOn}
 use Rattle.ts_irregular.proofs.EditLemmas.{with_in_order, int_lt_yes, int_lt_no}
-use Rattle.ts_chain.specs.Chain.{all_in, AreBefore, AreEarlier, AreLater, ArePages, IsDense, IsChain, IsAround}
-use Rattle.ts_chain.specs.Places.{AreChained, AreMoved, ArePlaces, FitsFirst, FitsLast, IsCounted, IsTarget}
+use Rattle.ts_sheets.specs.Chain.{all_in, AreBefore, AreEarlier, AreLater, ArePages, IsDense, IsChain, IsAround}
+use Rattle.ts_sheets.specs.Places.{AreChained, AreMoved, ArePlaces, FitsFirst, FitsLast, IsCounted, IsTarget}
 use Rattle.ts_chain.specs.Call.{AreWritten, IsPutNew}
 use Rattle.ts_chain.specs.Window.{half_of, AreHalves, ArePartedOf, AreSpread, HaveBoth, HavePart, begin_of}
 use Rattle.ts_chain.specs.declared.halves.Halves.{Halves}
 use Rattle.ts_chain.specs.Halves.{AreHalved}
-use Rattle.ts_chain.proofs.OrderLemmas.{all_in-append, earlier_than, later_front, later_back, later_of, order_first, order_others, sized_pages, earlier_front, earlier_back, some_z, first_earlier}
+use Rattle.ts_sheets.proofs.OrderLemmas.{all_in-append, earlier_than, later_front, later_back, later_of, order_first, order_others, sized_pages, earlier_front, earlier_back, some_z, first_earlier}
 use Rattle.ts_chain.proofs.EditLemmas.{with_lower, with_higher, with_same}
-use Rattle.ts_chain.proofs.DenseLemmas.{MeetsLeft, MeetsRight, dense_back, dense_tail, within_charge}
+use Rattle.ts_sheets.proofs.DenseLemmas.{MeetsLeft, MeetsRight, dense_back, dense_tail, within_charge}
 use Rattle.ts_chain.proofs.WindowLemmas.{at_page}
 use Rattle.ts_chain.proofs.PlaceLemmas.{Cut, cut, above_than, chain_earlier, chain_later}
 use Rattle.ts_chain.proofs.PagesLemmas.{changed_page, other_page}

@@ -25,11 +25,11 @@ use Rattle.ts_irregular.proofs.EditLemmas.{with_in_order}
 use Rattle.ts_irregular.proofs.HeadLemmas.{length-page, part_behind}
 use Rattle.ts_irregular.proofs.SearchLemmas.{search_ok, search_err}
 use Rattle.ts_irregular.proofs.SeeLemmas.{behind_told}
-use Rattle.ts_chain.specs.Chain.{all_in, AreBefore, IsChain}
-use Rattle.ts_chain.specs.Places.{AreChained, ArePlaces, IsCounted, IsHolder, IsTarget}
+use Rattle.ts_sheets.specs.Chain.{all_in, AreBefore, IsChain}
+use Rattle.ts_sheets.specs.Places.{AreChained, ArePlaces, IsCounted, IsHolder, IsTarget}
 use Rattle.ts_chain.specs.Call.{AreWritten, ChangesOnlyPages, IsInserted, IsPutNew, IsThereAlready}
 use Rattle.ts_chain.specs.Window.{half_of, ArePartedOf, HavePart}
-use Rattle.ts_chain.proofs.DenseLemmas.{dense_back, dense_left, dense_right}
+use Rattle.ts_sheets.proofs.DenseLemmas.{dense_back, dense_left, dense_right}
 use Rattle.ts_chain.proofs.PlaceLemmas.{above_than}
 use Rattle.ts_chain.proofs.TakenLemmas.{none_moved}
 use Rattle.ts_chain.proofs.SplitLemmas.{length-with}

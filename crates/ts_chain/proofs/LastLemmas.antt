@@ -10,9 +10,9 @@ use Rattle.ts_row.specs.Element.{Element, seen}
 use Rattle.ts_irregular.specs.Edit.{last_of, last_seen}
 use Rattle.ts_irregular.specs.OnePage.{IsOn}
 use Rattle.ts_irregular.specs.Call.{Reads, IsLast}
-use Rattle.ts_chain.specs.Chain.{all_in}
-use Rattle.ts_chain.specs.Places.{AreChained}
-use Rattle.ts_chain.proofs.OrderLemmas.{all_in-append}
+use Rattle.ts_sheets.specs.Chain.{all_in}
+use Rattle.ts_sheets.specs.Places.{AreChained}
+use Rattle.ts_sheets.proofs.OrderLemmas.{all_in-append}
 
 -- the last of two lists is that of the second, where it has one
 last_more : (x y : Element) (ys : List Element) → last_of (x ∷ y ∷ ys) ≡ last_of (y ∷ ys)

@@ -11,10 +11,10 @@ use Rattle.ts_row.specs.Element.{Element}
 use Rattle.ts_cells.specs.IrregularPage.{AreRising, first_stamp}
 use Rattle.ts_irregular.specs.Edit.{element_at, without_element, rank_of}
 use Rattle.ts_irregular.proofs.EditLemmas.{take_there, rank_below_length}
-use Rattle.ts_chain.specs.Chain.{all_in, AreEarlier, AreLater, ArePages}
-use Rattle.ts_chain.specs.Places.{AreChained, FitsFirst, FitsLast, IsBeginning}
-use Rattle.ts_chain.proofs.DenseLemmas.{MeetsLeft, MeetsRight}
-use Rattle.ts_chain.proofs.OrderLemmas.{later_of, later_than, some_z, first_earlier}
+use Rattle.ts_sheets.specs.Chain.{all_in, AreEarlier, AreLater, ArePages}
+use Rattle.ts_sheets.specs.Places.{AreChained, FitsFirst, FitsLast, IsBeginning}
+use Rattle.ts_sheets.proofs.DenseLemmas.{MeetsLeft, MeetsRight}
+use Rattle.ts_sheets.proofs.OrderLemmas.{later_of, later_than, some_z, first_earlier}
 use Rattle.ts_chain.proofs.EditLemmas.{without_lower, without_higher, without_same, without_none}
 use Rattle.ts_chain.proofs.PlaceLemmas.{above_than, before_first}
 use Rattle.ts_chain.proofs.RemoveLemmas.{pages_from, rising_at}

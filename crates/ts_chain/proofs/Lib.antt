@@ -1,6 +1,4 @@
-pub mod OrderLemmas
 pub mod EditLemmas
-pub mod DenseLemmas
 pub mod WindowLemmas
 pub mod PlaceLemmas
 pub mod FindLemmas

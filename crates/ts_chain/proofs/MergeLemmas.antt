@@ -11,11 +11,11 @@ use Rattle.ts_cells.proofs.HeadLemmas.{irregular_behind}
 use Rattle.ts_irregular.specs.Edit.{element_at, without_element}
 use Rattle.ts_irregular.specs.OnePage.{IsOn}
 use Rattle.ts_irregular.proofs.EditLemmas.{without_in_order}
-use Rattle.ts_chain.specs.Chain.{all_in, ArePages, AreEarlier, AreLater, IsChain, IsAround}
-use Rattle.ts_chain.specs.Places.{AreChained, ArePlaces, IsBeginning, IsCounted}
+use Rattle.ts_sheets.specs.Chain.{all_in, ArePages, AreEarlier, AreLater, IsChain, IsAround}
+use Rattle.ts_sheets.specs.Places.{AreChained, ArePlaces, IsBeginning, IsCounted}
 use Rattle.ts_chain.specs.Call.{AreWritten, IsTakenAway}
 use Rattle.ts_chain.specs.Window.{AreOnOne, IsRestOf}
-use Rattle.ts_chain.proofs.OrderLemmas.{all_in-append, earlier_than, later_front, later_back, earlier_front, earlier_back}
+use Rattle.ts_sheets.proofs.OrderLemmas.{all_in-append, earlier_than, later_front, later_back, earlier_front, earlier_back}
 use Rattle.ts_chain.proofs.EditLemmas.{without_behind, without_before}
 use Rattle.ts_chain.proofs.WindowLemmas.{at_page}
 use Rattle.ts_chain.proofs.PlaceLemmas.{chain_earlier, chain_later}

@@ -9,7 +9,7 @@ use Rattle.ts_space.specs.Place.{pages_of}
 use Rattle.ts_page.specs.Pages.{Contents, IsElementPage, IsLawful, IsListed}
 use Rattle.ts_row.specs.declared.kind.Column.{Column}
 use Rattle.ts_irregular.specs.OnePage.{IsPlace}
-use Rattle.ts_chain.specs.Places.{AreMoved, ArePlaces, CanBeFreed, CanBeRead, IsCounted}
+use Rattle.ts_sheets.specs.Places.{AreMoved, ArePlaces, CanBeFreed, CanBeRead, IsCounted}
 use Rattle.ts_chain.proofs.FreeLemmas.{pairs_moved}
 use Rattle.ts_chain.proofs.PutLemmas.{apart_parts, pairs_from, place_used}
 

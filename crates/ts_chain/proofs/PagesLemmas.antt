@@ -8,7 +8,7 @@ use Rattle.ts_row.specs.declared.kind.Column.{Column}
 use Rattle.ts_row.specs.Element.{Element}
 use Rattle.ts_irregular.specs.OnePage.{IsOn}
 use Rattle.ts_space.specs.Place.{pages_of}
-use Rattle.ts_chain.specs.Places.{AreChained}
+use Rattle.ts_sheets.specs.Places.{AreChained}
 
 -- the page under a number that was changed, and one under another
 pub changed_page : (n : ℕ) (bytes : List ℕ) (pages : ℕ → List ℕ) → with_page n bytes pages n ≡ bytes

@@ -11,8 +11,8 @@ use Rattle.ts_row.specs.Element.{Element}
 use Rattle.ts_cells.specs.IrregularPage.{AreElements, behind_head, irregular_page}
 use Rattle.ts_cells.proofs.HeadLemmas.{irregular_behind}
 use Rattle.ts_irregular.specs.OnePage.{IsOn}
-use Rattle.ts_chain.specs.Chain.{all_in}
-use Rattle.ts_chain.specs.Places.{AreChained, IsCounted}
+use Rattle.ts_sheets.specs.Chain.{all_in}
+use Rattle.ts_sheets.specs.Places.{AreChained, IsCounted}
 use Rattle.ts_chain.specs.declared.halves.Halves.{Halves}
 use Rattle.ts_chain.specs.Window.{AreSpread, begin_of}
 use Rattle.ts_chain.specs.Halves.{IsSpread}

@@ -8,9 +8,9 @@ use Rattle.ts_row.specs.declared.kind.Column.{Column}
 use Rattle.ts_row.specs.Element.{Element}
 use Rattle.ts_cells.specs.IrregularPage.{AreRising, first_stamp}
 use Rattle.ts_irregular.specs.OnePage.{IsOn}
-use Rattle.ts_chain.specs.Chain.{all_in, AreEarlier, AreLater, AreBefore, ArePages, IsAround}
-use Rattle.ts_chain.specs.Places.{AreChained, IsHolder}
-use Rattle.ts_chain.proofs.OrderLemmas.{later_than, earlier_than, later_of, later_both, all_in-append, some_z}
+use Rattle.ts_sheets.specs.Chain.{all_in, AreEarlier, AreLater, AreBefore, ArePages, IsAround}
+use Rattle.ts_sheets.specs.Places.{AreChained, IsHolder}
+use Rattle.ts_sheets.proofs.OrderLemmas.{later_than, earlier_than, later_of, later_both, all_in-append, some_z}
 
 -- places above a lower stamp
 pub above_than : (low high : ℤ) (ps : List Place) → low ≤ℤ high → AreAbove high ps → AreAbove low ps

@@ -9,9 +9,9 @@ use Rattle.ts_row.specs.Element.{Element}
 use Rattle.ts_cells.specs.IrregularPage.{AreRising, first_stamp}
 use Rattle.ts_irregular.specs.Edit.{element_at, last_of, rank_of}
 use Rattle.ts_irregular.proofs.EditLemmas.{int_lt_yes, int_lt_no, AreRising-tail, none_after}
-use Rattle.ts_chain.specs.Chain.{AreLater}
-use Rattle.ts_chain.specs.Placing.{earlier, last_before}
-use Rattle.ts_chain.proofs.OrderLemmas.{later_than, later_of, some_z}
+use Rattle.ts_sheets.specs.Chain.{AreLater}
+use Rattle.ts_sheets.specs.Placing.{earlier, last_before}
+use Rattle.ts_sheets.proofs.OrderLemmas.{later_than, later_of, some_z}
 use Rattle.ts_chain.proofs.EditLemmas.{at_lower, at_higher, at_same}
 use Rattle.ts_chain.proofs.LastLemmas.{last_back, last_some}
 

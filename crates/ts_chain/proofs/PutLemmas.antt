@@ -14,12 +14,12 @@ use Rattle.ts_row.specs.Element.{Element}
 use Rattle.ts_cells.specs.Cell.{IsElement, page_room}
 use Rattle.ts_irregular.specs.Edit.{with_element}
 use Rattle.ts_irregular.specs.OnePage.{IsOn, IsPlace}
-use Rattle.ts_chain.specs.Chain.{all_in, AreBefore, ArePages, IsDense, IsChain, IsAround}
-use Rattle.ts_chain.specs.Places.{AreChained, AreMoved, ArePlaces, IsCounted}
+use Rattle.ts_sheets.specs.Chain.{all_in, AreBefore, ArePages, IsDense, IsChain, IsAround}
+use Rattle.ts_sheets.specs.Places.{AreChained, AreMoved, ArePlaces, IsCounted}
 use Rattle.ts_chain.specs.Call.{AreWritten, ChangesOnlyPages}
 use Rattle.ts_chain.specs.Window.{HavePart, StartsWith, EndsWith}
-use Rattle.ts_chain.proofs.OrderLemmas.{all_in-append, later_front, sized_pages}
-use Rattle.ts_chain.proofs.DenseLemmas.{MeetsLeft, MeetsRight, dense_front, dense_back, dense_made, dense_cons, meets_left, meets_right}
+use Rattle.ts_sheets.proofs.OrderLemmas.{all_in-append, later_front, sized_pages}
+use Rattle.ts_sheets.proofs.DenseLemmas.{MeetsLeft, MeetsRight, dense_front, dense_back, dense_made, dense_cons, meets_left, meets_right}
 use Rattle.ts_chain.proofs.WindowLemmas.{with_window}
 use Rattle.ts_chain.proofs.PlaceLemmas.{above_than, chained_both}
 use Rattle.ts_chain.proofs.FreeLemmas.{contains_first, contains_second}

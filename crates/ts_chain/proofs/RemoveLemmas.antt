@@ -13,13 +13,13 @@ use Rattle.ts_row.specs.Element.{Element}
 use Rattle.ts_cells.specs.Cell.{page_room}
 use Rattle.ts_cells.specs.IrregularPage.{irregular_page, first_stamp}
 use Rattle.ts_irregular.specs.Edit.{without_element}
-use Rattle.ts_chain.specs.Chain.{all_in, ArePages, AreSized, IsDense, IsChain, IsAround}
+use Rattle.ts_sheets.specs.Chain.{all_in, ArePages, AreSized, IsDense, IsChain, IsAround}
 use Rattle.ts_space.specs.Place.{pages_of}
-use Rattle.ts_chain.specs.Places.{AreChained, AreMoved, IsCounted}
+use Rattle.ts_sheets.specs.Places.{AreChained, AreMoved, IsCounted}
 use Rattle.ts_chain.specs.Call.{AreWritten}
 use Rattle.ts_chain.specs.Window.{AreOnOne}
-use Rattle.ts_chain.proofs.OrderLemmas.{sized_pages, sized_back}
-use Rattle.ts_chain.proofs.DenseLemmas.{MeetsLeft, MeetsRight, dense_front, dense_back, dense_left, dense_right, dense_cons, dense_made, dense_tail, meets_left, meets_right}
+use Rattle.ts_sheets.proofs.OrderLemmas.{sized_pages, sized_back}
+use Rattle.ts_sheets.proofs.DenseLemmas.{MeetsLeft, MeetsRight, dense_front, dense_back, dense_left, dense_right, dense_cons, dense_made, dense_tail, meets_left, meets_right}
 use Rattle.ts_chain.proofs.WindowLemmas.{without_window}
 use Rattle.ts_chain.proofs.PlaceLemmas.{chained_both}
 use Rattle.ts_chain.proofs.PagesLemmas.{AreApart, changed_page, other_page, page_there, apart_behind, apart_before, chained_other}

@@ -16,7 +16,7 @@ use Rattle.ts_irregular.proofs.SeeLemmas.{behind_told}
 use Rattle.ts_space.specs.declared.moved.Moved.{Moved}
 use Rattle.ts_space.specs.Moved.{moved_to}
 use Rattle.ts_space.specs.Place.{pages_of}
-use Rattle.ts_chain.specs.Places.{AreChained, ArePlaces, IsHolder}
+use Rattle.ts_sheets.specs.Places.{AreChained, ArePlaces, IsHolder}
 use Rattle.ts_chain.specs.Call.{IsMissing, IsRemoved}
 use Rattle.ts_chain.specs.Window.{IsRestOf}
 use Rattle.ts_chain.proofs.FindLemmas.{cut_told}

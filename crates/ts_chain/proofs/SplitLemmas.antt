@@ -10,8 +10,8 @@ use Rattle.ts_irregular.proofs.EditLemmas.{int_lt_yes, int_lt_no}
 use Rattle.ts_irregular.proofs.SearchLemmas.{search_err}
 use Rattle.ts_irregular.proofs.PutLemmas.{put_before}
 use Rattle.ts_irregular.proofs.BytesLemmas.{length-inserted}
-use Rattle.ts_chain.specs.Chain.{AreEarlier, AreLater}
-use Rattle.ts_chain.proofs.OrderLemmas.{later_of, later_than, rising_tail}
+use Rattle.ts_sheets.specs.Chain.{AreEarlier, AreLater}
+use Rattle.ts_sheets.proofs.OrderLemmas.{later_of, later_than, rising_tail}
 use Rattle.ts_chain.proofs.EditLemmas.{at_lower, at_same, at_behind, at_before, with_behind, with_before}
 
 rank_lower : (stamp : ℤ) (e : Element) (es : List Element) → e.0 <ℤ stamp → rank_of stamp (e ∷ es) ≡ suc (rank_of stamp es)

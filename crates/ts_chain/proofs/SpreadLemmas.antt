@@ -9,10 +9,10 @@ use Rattle.ts_cells.specs.Cell.{IsElement, page_room}
 use Rattle.ts_cells.specs.IrregularPage.{AreInOrder, irregular_page, first_stamp}
 use Rattle.ts_irregular.specs.Edit.{with_element}
 use Rattle.ts_irregular.proofs.EditLemmas.{with_in_order}
-use Rattle.ts_chain.specs.Chain.{all_in, ArePages, AreSized, IsAround}
-use Rattle.ts_chain.specs.Places.{AreChained, IsCounted}
+use Rattle.ts_sheets.specs.Chain.{all_in, ArePages, AreSized, IsAround}
+use Rattle.ts_sheets.specs.Places.{AreChained, IsCounted}
 use Rattle.ts_chain.specs.Window.{half_of, AreHalves, HavePart}
-use Rattle.ts_chain.proofs.OrderLemmas.{pages_in_order, pages_made}
+use Rattle.ts_sheets.proofs.OrderLemmas.{pages_in_order, pages_made}
 use Rattle.ts_chain.proofs.EditLemmas.{with_around}
 use Rattle.ts_chain.proofs.PlaceLemmas.{Cut}
 

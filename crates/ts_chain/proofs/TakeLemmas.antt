@@ -12,13 +12,13 @@ use Rattle.ts_cells.specs.Cell.{page_room}
 use Rattle.ts_cells.specs.IrregularPage.{first_stamp}
 use Rattle.ts_irregular.specs.Edit.{element_at, without_element}
 use Rattle.ts_irregular.specs.OnePage.{IsOn, IsPlace}
-use Rattle.ts_chain.specs.Chain.{all_in, IsChain}
+use Rattle.ts_sheets.specs.Chain.{all_in, IsChain}
 use Rattle.ts_space.specs.declared.moved.Moved.{Moved}
 use Rattle.ts_space.specs.Moved.{list_of, moved_to}
-use Rattle.ts_chain.specs.Places.{AreChained, ArePlaces, FitsFirst, FitsLast, IsBeginning, IsCounted, IsHolder}
+use Rattle.ts_sheets.specs.Places.{AreChained, ArePlaces, FitsFirst, FitsLast, IsBeginning, IsCounted, IsHolder}
 use Rattle.ts_chain.specs.Call.{AreWritten, IsTakenAway}
 use Rattle.ts_chain.specs.Window.{IsRestOf}
-use Rattle.ts_chain.proofs.DenseLemmas.{MeetsLeft, MeetsRight}
+use Rattle.ts_sheets.proofs.DenseLemmas.{MeetsLeft, MeetsRight}
 use Rattle.ts_chain.proofs.WindowLemmas.{at_page}
 use Rattle.ts_chain.proofs.PlaceLemmas.{Cut, cut, holder_around}
 use Rattle.ts_chain.proofs.FindLemmas.{cut_told}

@@ -11,11 +11,11 @@ use Rattle.ts_irregular.specs.Edit.{element_at, with_element, without_element, l
 use Rattle.ts_irregular.specs.Call.{Stays}
 use Rattle.ts_space.specs.Place.{count_of}
 use Rattle.ts_space.specs.declared.moved.Moved.{Moved}
-use Rattle.ts_chain.specs.Chain.{IsChain, all_in}
+use Rattle.ts_sheets.specs.Chain.{IsChain, all_in}
 use Rattle.ts_space.specs.Place.{pages_of}
 use Rattle.ts_space.specs.Moved.{moved_to}
-use Rattle.ts_chain.specs.Places.{AreChained, AreMoved}
-use Rattle.ts_chain.specs.Placing.{place_for}
+use Rattle.ts_sheets.specs.Places.{AreChained, AreMoved}
+use Rattle.ts_sheets.specs.Placing.{place_for}
 
 -- Where the pages are told, this holds of the chain that they have and their places tell of. Of pages that have none
 -- such it says nothing.

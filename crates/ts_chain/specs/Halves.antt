@@ -10,7 +10,7 @@ use Rattle.ts_cells.specs.Cell.{page_room}
 use Rattle.ts_cells.specs.IrregularPage.{AreElements, irregular_page, first_stamp}
 use Rattle.ts_irregular.specs.OnePage.{IsPlace}
 use Rattle.ts_chain.specs.declared.halves.Halves.{Halves}
-use Rattle.ts_chain.specs.Places.{FitsFirst, FitsLast, IsCounted}
+use Rattle.ts_sheets.specs.Places.{FitsFirst, FitsLast, IsCounted}
 use Rattle.ts_chain.specs.Window.{half_of, AreSpread, begin_of}
 
 -- this is the last of the places, and its elements and so many more fit one page

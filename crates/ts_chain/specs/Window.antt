@@ -12,9 +12,9 @@ use Rattle.ts_cells.specs.Cell.{page_room}
 use Rattle.ts_cells.specs.IrregularPage.{AreElements, irregular_page, first_stamp}
 use Rattle.ts_irregular.specs.Edit.{element_at, with_element, without_element}
 use Rattle.ts_irregular.specs.OnePage.{IsOn}
-use Rattle.ts_chain.specs.Chain.{ArePages, IsDense, all_in}
+use Rattle.ts_sheets.specs.Chain.{ArePages, IsDense, all_in}
 use Rattle.ts_space.specs.Place.{count_of, pages_of}
-use Rattle.ts_chain.specs.Places.{AreChained, IsCounted}
+use Rattle.ts_sheets.specs.Places.{AreChained, IsCounted}
 use Rattle.ts_chain.specs.Call.{ChangesOnlyPages}
 
 -- how many elements the first half of a page has that was full and got one more

@@ -4,7 +4,7 @@ ghost use Rattle.ts_row.specs.Row.{fits};
 ghost use Rattle.ts_space.specs.Directory.{places_of};
 ghost use Rattle.ts_page.specs.Pages.{Answered};
 ghost use Rattle.ts_irregular.specs.Call.{AreLeft};
-ghost use Rattle.ts_chain.specs.Places.{ArePlaces};
+ghost use Rattle.ts_sheets.specs.Places.{ArePlaces};
 ghost use Rattle.ts_chain.specs.Call.{IsReplaced, IsMarked};
 
 use crate::find::holder;

@@ -4,7 +4,7 @@ ghost use Rattle.ts_row.specs.Row.{fits};
 ghost use Rattle.ts_space.specs.Place.{IsRising, AreAbove};
 ghost use Rattle.ts_space.specs.Directory.{places_of};
 ghost use Rattle.ts_irregular.specs.Call.{Reads};
-ghost use Rattle.ts_chain.specs.Places.{CanBeRead, IsHolder};
+ghost use Rattle.ts_sheets.specs.Places.{CanBeRead, IsHolder};
 ghost use Rattle.ts_chain.specs.Call.{IsRowIn};
 
 use ts_base::{Stamp, StoreFault};

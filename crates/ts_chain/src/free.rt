@@ -2,7 +2,7 @@
 ghost use Rattle.std.specs.Prelude.{◌≡◌, ◌≢◌, ◌+◌, ◌*◌, ◌≤◌, All, AllPairs, IfOk, OnOk, length};
 ghost use Rattle.ts_space.specs.Place.{pages_of};
 ghost use Rattle.ts_page.specs.Pages.{Answered};
-ghost use Rattle.ts_chain.specs.Places.{CanBeFreed};
+ghost use Rattle.ts_sheets.specs.Places.{CanBeFreed};
 ghost use Rattle.ts_chain.specs.Call.{AreFreed};
 ghost use Rattle.ts_chain.specs.Window.{AreFreedTo};
 

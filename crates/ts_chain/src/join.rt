@@ -7,7 +7,7 @@ ghost use Rattle.ts_cells.specs.IrregularPage.{AreElements, behind_head, irregul
 ghost use Rattle.ts_irregular.specs.OnePage.{IsOn};
 ghost use Rattle.ts_irregular.specs.Call.{Reads};
 ghost use Rattle.ts_space.specs.declared.place.Place.{Place as ThePlace};
-ghost use Rattle.ts_chain.specs.Places.{CanBeRead, FitsFirst, FitsLast};
+ghost use Rattle.ts_sheets.specs.Places.{CanBeRead, FitsFirst, FitsLast};
 
 use crate::page::append_page;
 use ts_base::StoreFault;

@@ -3,7 +3,7 @@ ghost use Rattle.std.specs.Prelude.{◌<◌, All, IsTrue, IfOk, IfSome, [], ◌�
 ghost use Rattle.ts_row.specs.Row.{fits};
 ghost use Rattle.ts_space.specs.Directory.{places_of};
 ghost use Rattle.ts_irregular.specs.Call.{Reads, IsLast};
-ghost use Rattle.ts_chain.specs.Places.{CanBeRead};
+ghost use Rattle.ts_sheets.specs.Places.{CanBeRead};
 ghost use Rattle.ts_chain.specs.Call.{IsLastIn};
 
 use ts_base::{Stamp, StoreFault};

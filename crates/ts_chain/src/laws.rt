@@ -10,8 +10,8 @@ ghost use Rattle.ts_row.specs.Element.{Element};
 ghost use Rattle.ts_cells.specs.Cell.{IsElement, page_room};
 ghost use Rattle.ts_cells.specs.IrregularPage.{AreInOrder};
 ghost use Rattle.ts_irregular.specs.Edit.{element_at, with_element, without_element};
-ghost use Rattle.ts_chain.specs.Places.{AreMoved, ArePlaces, CanBeFreed, CanBeRead};
-ghost use Rattle.ts_chain.specs.Chain.{AreSized, IsDense, IsChain, IsAround, all_in};
+ghost use Rattle.ts_sheets.specs.Places.{AreMoved, ArePlaces, CanBeFreed, CanBeRead};
+ghost use Rattle.ts_sheets.specs.Chain.{AreSized, IsDense, IsChain, IsAround, all_in};
 
 /// The elements of its pages, one page after the other, are in order.
 pub fn a_chain_is_in_order()

@@ -6,7 +6,7 @@ ghost use Rattle.ts_row.specs.Element.{Element};
 ghost use Rattle.ts_cells.specs.Cell.{page_room};
 ghost use Rattle.ts_cells.specs.IrregularPage.{AreElements, behind_head};
 ghost use Rattle.ts_irregular.specs.OnePage.{IsPlace, IsOn};
-ghost use Rattle.ts_chain.specs.Places.{IsCounted};
+ghost use Rattle.ts_sheets.specs.Places.{IsCounted};
 ghost use Rattle.ts_chain.specs.Window.{AreOnOne};
 
 use crate::join::{join_before, join_behind};

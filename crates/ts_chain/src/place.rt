@@ -8,8 +8,8 @@ ghost use Rattle.ts_cells.specs.Cell.{page_room};
 ghost use Rattle.ts_cells.specs.IrregularPage.{AreInOrder, behind_head};
 ghost use Rattle.ts_irregular.specs.OnePage.{IsOn};
 ghost use Rattle.ts_irregular.specs.Call.{Reads};
-ghost use Rattle.ts_chain.specs.Places.{CanBeRead};
-ghost use Rattle.ts_chain.specs.Placing.{next_second, last_before, unit_after};
+ghost use Rattle.ts_sheets.specs.Places.{CanBeRead};
+ghost use Rattle.ts_sheets.specs.Placing.{next_second, last_before, unit_after};
 ghost use Rattle.ts_chain.specs.Call.{IsPlaceIn};
 
 use crate::find::holder;

@@ -5,8 +5,8 @@ use Rattle.std.proofs.lemmas.List.{take-append-drop}
 use Rattle.ts_space.specs.declared.place.Place.{Place}
 use Rattle.ts_row.specs.declared.kind.Column.{Column}
 use Rattle.ts_row.specs.Element.{Element, seen}
-use Rattle.ts_chain.specs.Chain.{all_in}
-use Rattle.ts_chain.proofs.OrderLemmas.{all_in-append}
+use Rattle.ts_sheets.specs.Chain.{all_in}
+use Rattle.ts_sheets.proofs.OrderLemmas.{all_in-append}
 use Rattle.ts_entry.specs.Reading.{first_seen}
 use Rattle.ts_clip.proofs.ChainCellLemmas.{seen_both}
 use Rattle.ts_clip.proofs.ChainPageLemmas.{PageIn}

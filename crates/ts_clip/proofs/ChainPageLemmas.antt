@@ -13,10 +13,10 @@ use Rattle.ts_irregular.specs.Call.{Reads}
 use Rattle.ts_irregular.proofs.SeeLemmas.{behind_told}
 use Rattle.ts_irregular.proofs.FindLemmas.{read_on}
 use Rattle.ts_irregular.proofs.HeadLemmas.{part_behind, length-page}
-use Rattle.ts_chain.specs.Chain.{all_in}
-use Rattle.ts_chain.specs.Places.{AreChained, CanBeRead}
-use Rattle.ts_chain.specs.Range.{is_within, within_range}
-use Rattle.ts_chain.proofs.OrderLemmas.{all_in-append}
+use Rattle.ts_sheets.specs.Chain.{all_in}
+use Rattle.ts_sheets.specs.Places.{AreChained, CanBeRead}
+use Rattle.ts_sheets.specs.Range.{is_within, within_range}
+use Rattle.ts_sheets.proofs.OrderLemmas.{all_in-append}
 use Rattle.ts_chain.proofs.LastLemmas.{chained_count}
 use Rattle.ts_clip.proofs.ChainCellLemmas.{seen_both}
 

@@ -8,7 +8,7 @@ use Rattle.ts_row.specs.declared.kind.Column.{Column}
 use Rattle.ts_row.specs.Element.{Element, seen}
 use Rattle.ts_cells.specs.IrregularPage.{AreElements}
 use Rattle.ts_irregular.proofs.EditLemmas.{int_lt_no}
-use Rattle.ts_chain.specs.Range.{is_within, within_range}
+use Rattle.ts_sheets.specs.Range.{is_within, within_range}
 use Rattle.ts_entry.specs.Entry.{Entry, filled, elements_of, AreTaken}
 use Rattle.ts_entry.specs.Reading.{clipped, counted, entry_number, last_ones, most_rows, within_rows}
 use Rattle.ts_clip.specs.Call.{IsRead}

@@ -4,9 +4,9 @@ use Rattle.std.proofs.lemmas.List.Elements.{filter-append}
 use Rattle.ts_space.specs.declared.place.Place.{Place}
 use Rattle.ts_row.specs.declared.kind.Column.{Column}
 use Rattle.ts_row.specs.Element.{Element}
-use Rattle.ts_chain.specs.Chain.{all_in}
-use Rattle.ts_chain.specs.Range.{is_within, within_range}
-use Rattle.ts_chain.proofs.OrderLemmas.{all_in-append}
+use Rattle.ts_sheets.specs.Chain.{all_in}
+use Rattle.ts_sheets.specs.Range.{is_within, within_range}
+use Rattle.ts_sheets.proofs.OrderLemmas.{all_in-append}
 use Rattle.ts_clip.proofs.ChainPageLemmas.{PageIn}
 
 range_both : (from to : ℤ) (xs ys : List Element) → within_range from to (xs ++ ys) ≡ within_range from to xs ++ within_range from to ys

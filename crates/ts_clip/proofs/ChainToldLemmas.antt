@@ -10,10 +10,10 @@ use Rattle.ts_row.specs.declared.kind.Column.{Column}
 use Rattle.ts_row.specs.Element.{Element, seen}
 use Rattle.ts_cells.specs.IrregularPage.{AreInOrder}
 use Rattle.ts_irregular.specs.Call.{Reads}
-use Rattle.ts_chain.specs.Chain.{all_in}
-use Rattle.ts_chain.specs.Places.{AreChained}
-use Rattle.ts_chain.specs.Range.{is_within, within_range}
-use Rattle.ts_chain.proofs.OrderLemmas.{pages_in_order}
+use Rattle.ts_sheets.specs.Chain.{all_in}
+use Rattle.ts_sheets.specs.Places.{AreChained}
+use Rattle.ts_sheets.specs.Range.{is_within, within_range}
+use Rattle.ts_sheets.proofs.OrderLemmas.{pages_in_order}
 use Rattle.ts_series.proofs.ChainLemmas.{counted}
 use Rattle.ts_series.proofs.KeepLemmas.{chained_since}
 use Rattle.ts_series.proofs.RangeLemmas.{filter_in_order}

@@ -21,10 +21,10 @@ use Rattle.ts_regular.specs.Places.{OffsetPage, all_in}
 use Rattle.ts_regular.specs.Range.{is_between, within}
 use Rattle.ts_regular.specs.OnePage.{cell_at}
 use Rattle.ts_regular.proofs.PlaceLemmas.{all_both}
-use Rattle.ts_chain.specs.Range.{within_range}
+use Rattle.ts_sheets.specs.Range.{within_range}
 use Rattle.ts_regular_edits.specs.Range.{AreOffsetsOf}
 use Rattle.ts_regular_edits.proofs.RangeLemmas.{within_stamped}
-use Rattle.ts_regular_edits.specs.Stamped.{stamped, stamped_one, HaveStarts}
+use Rattle.ts_sheets.specs.Stamped.{stamped, stamped_one, HaveStarts}
 use Rattle.ts_regular_edits.proofs.StampLemmas.{stamped_cons}
 use Rattle.ts_entry.specs.Entry.{Entry, element_of, elements_of}
 use Rattle.ts_clip.specs.Numbered.{numbered, seen_in}

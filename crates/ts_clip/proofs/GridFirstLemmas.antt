@@ -12,7 +12,7 @@ use Rattle.ts_regular.specs.Cell.{Cell}
 use Rattle.ts_regular.specs.Offsets.{OffsetElement, elements_from, seen}
 use Rattle.ts_regular.specs.Places.{OffsetPage, all_in}
 use Rattle.ts_regular.specs.OnePage.{cell_at, is_seen}
-use Rattle.ts_regular_edits.specs.Stamped.{stamped, stamped_one, HaveStarts}
+use Rattle.ts_sheets.specs.Stamped.{stamped, stamped_one, HaveStarts}
 use Rattle.ts_regular_edits.proofs.StampLemmas.{some_start, stamped_cons}
 use Rattle.ts_entry.specs.Reading.{first_seen}
 use Rattle.ts_clip.specs.Grid.{first_of}

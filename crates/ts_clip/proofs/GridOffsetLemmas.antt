@@ -14,7 +14,7 @@ use Rattle.ts_row.specs.Row.{Row}
 use Rattle.ts_regular.specs.Range.{is_between}
 use Rattle.ts_regular_edits.specs.Range.{AreOffsetsOf, AreUpTo}
 use Rattle.ts_regular_edits.proofs.RangeLemmas.{offsets_of, one_start}
-use Rattle.ts_regular_edits.proofs.StartLemmas.{stamps_rise}
+use Rattle.ts_sheets.proofs.StartLemmas.{stamps_rise}
 use Rattle.ts_entry.specs.Entry.{Entry}
 use Rattle.ts_entry.specs.Reading.{clipped, counted}
 use Rattle.ts_clip.specs.Grid.{AreAtStarts, between}

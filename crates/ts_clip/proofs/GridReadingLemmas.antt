@@ -13,7 +13,7 @@ use Rattle.ts_row.specs.Element.{Element, seen}
 use Rattle.ts_irregular.specs.Edit.{last_of, last_seen}
 use Rattle.ts_regular.specs.Offsets as offsets
 use Rattle.ts_regular.specs.Offsets.{OffsetElement}
-use Rattle.ts_regular_edits.specs.Stamped.{stamped, stamped_one, HaveStarts}
+use Rattle.ts_sheets.specs.Stamped.{stamped, stamped_one, HaveStarts}
 use Rattle.ts_regular_edits.proofs.StampLemmas.{some_start, stamped_cons}
 use Rattle.ts_entry.specs.Entry.{Entry}
 use Rattle.ts_entry.specs.Reading.{entry_at, is_reached, reading}

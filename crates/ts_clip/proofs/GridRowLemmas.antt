@@ -9,7 +9,7 @@ use Rattle.ts_regular.specs.Offsets.{OffsetElement, elements_from}
 use Rattle.ts_regular.specs.Places.{OffsetPage, all_in}
 use Rattle.ts_regular.specs.Range.{is_between, within}
 use Rattle.ts_regular.proofs.PlaceLemmas.{all_both}
-use Rattle.ts_regular_edits.specs.Stamped.{stamped, stamped_one, HaveStarts}
+use Rattle.ts_sheets.specs.Stamped.{stamped, stamped_one, HaveStarts}
 use Rattle.ts_clip.proofs.GridStartLemmas.{take_parts}
 use Rattle.ts_clip.proofs.GridWithinLemmas.{between_before, between_in, none_here, own_here, within_both, within_cells, within_none}
 

@@ -9,7 +9,7 @@ use Rattle.ts_calendar.specs.Intervals.{IsLaid}
 use Rattle.ts_offset.specs.Grid.{GridPlan, starts_of, stamp_of}
 use Rattle.ts_regular.specs.Offsets as offsets
 use Rattle.ts_regular.specs.Offsets.{OffsetElement}
-use Rattle.ts_regular_edits.specs.Stamped.{stamped, HaveStarts}
+use Rattle.ts_sheets.specs.Stamped.{stamped, HaveStarts}
 use Rattle.ts_regular_edits.proofs.StampLemmas.{found_stamped, some_start, stamped_cons}
 use Rattle.ts_entry.specs.Reading.{entry_at}
 use Rattle.ts_clip.specs.Numbered.{numbered, seen_at}

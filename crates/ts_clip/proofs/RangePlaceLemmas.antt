@@ -14,11 +14,11 @@ use Rattle.ts_offset.specs.declared.shape.Shape.{Shape}
 use Rattle.ts_offset.specs.declared.shape.Shape.TheVariants.{Irregular, Regular}
 use Rattle.ts_regular.specs.Offsets.{OffsetElement}
 use Rattle.ts_regular.specs.Places.{all_in as all_at}
-use Rattle.ts_chain.specs.Chain.{all_in}
-use Rattle.ts_chain.specs.Places.{AreChained}
-use Rattle.ts_chain.specs.Range.{within_range}
+use Rattle.ts_sheets.specs.Chain.{all_in}
+use Rattle.ts_sheets.specs.Places.{AreChained}
+use Rattle.ts_sheets.specs.Range.{within_range}
 use Rattle.ts_regular_edits.specs.Range.{AreOffsetsOf}
-use Rattle.ts_regular_edits.specs.Stamped.{stamped, HaveStarts}
+use Rattle.ts_sheets.specs.Stamped.{stamped, HaveStarts}
 use Rattle.ts_regular_edits.proofs.RangeLemmas.{within_stamped}
 use Rattle.ts_clip.specs.Between.{AreBetween}
 use Rattle.ts_clip.specs.Chain.{HaveRange}

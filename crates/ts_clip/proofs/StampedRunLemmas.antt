@@ -17,7 +17,7 @@ use Rattle.ts_calendar.specs.Intervals.{IsLaid}
 use Rattle.ts_offset.specs.Grid.{GridPlan, stamp_of}
 use Rattle.ts_regular.specs.Cell.{Cell}
 use Rattle.ts_regular.specs.Offsets.{OffsetElement, elements_from}
-use Rattle.ts_regular_edits.specs.Stamped.{stamped, stamped_one, HaveStarts}
+use Rattle.ts_sheets.specs.Stamped.{stamped, stamped_one, HaveStarts}
 use Rattle.ts_regular_edits.proofs.StampLemmas.{some_start}
 use Rattle.ts_entry.specs.declared.stamps.Stamps.TheVariants.{InCells, OnGrid}
 use Rattle.ts_entry.specs.Stamps.{HasStamp}

@@ -11,9 +11,9 @@ use Rattle.ts_row.specs.declared.row.Shelf.{Shelf}
 use Rattle.ts_offset.specs.declared.shape.Shape.TheVariants.{Irregular}
 use Rattle.ts_irregular.specs.Call as one_page
 use Rattle.ts_cells.specs.IrregularPage.{AreElements, AreInOrder, behind_head}
-use Rattle.ts_chain.specs.Chain.{all_in, ArePages}
-use Rattle.ts_chain.specs.Places.{AreChained}
-use Rattle.ts_chain.specs.Range.{within_range}
+use Rattle.ts_sheets.specs.Chain.{all_in, ArePages}
+use Rattle.ts_sheets.specs.Places.{AreChained}
+use Rattle.ts_sheets.specs.Range.{within_range}
 use Rattle.ts_series.specs.Ends.{EndsAt, OthersAreAbove}
 use Rattle.ts_entry.specs.Entry.{Entry, filled}
 use Rattle.ts_clip.specs.Series.{IsTold}

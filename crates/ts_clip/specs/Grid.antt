@@ -12,7 +12,7 @@ use Rattle.ts_regular.specs.Offsets.{OffsetElement, seen as seen_of}
 use Rattle.ts_regular.specs.OnePage.{IsToldOn}
 use Rattle.ts_regular.specs.Places.{OffsetPage}
 use Rattle.ts_regular.specs.Range.{within}
-use Rattle.ts_regular_edits.specs.Stamped.{stamped}
+use Rattle.ts_sheets.specs.Stamped.{stamped}
 use Rattle.ts_entry.specs.Entry.{Entry, elements_of}
 use Rattle.ts_entry.specs.Reading.{entry_at}
 use Rattle.ts_clip.specs.Series.{IsTold}

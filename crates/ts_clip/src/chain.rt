@@ -3,7 +3,7 @@ ghost use Rattle.std.specs.Prelude.{◌≡◌, ◌<◌, IfOk, length};
 ghost use Rattle.ts_space.specs.Directory.{places_of};
 ghost use Rattle.ts_offset.specs.declared.shape.Shape.TheVariants.{Irregular};
 ghost use Rattle.ts_irregular.specs.Call.{Reads};
-ghost use Rattle.ts_chain.specs.Places.{ArePlaces};
+ghost use Rattle.ts_sheets.specs.Places.{ArePlaces};
 ghost use Rattle.ts_entry.specs.Entry.{AreTaken};
 ghost use Rattle.ts_entry.specs.Reading.{reading, clipped, counted, entry_number, within_rows};
 ghost use Rattle.ts_clip.specs.Call.{IsRead, IsShown, AreElementsTaken};

@@ -3,7 +3,7 @@ ghost use Rattle.std.specs.Prelude.{◌≡◌, ◌<◌, IsTrue, IfOk, IfSome};
 ghost use Rattle.ts_row.specs.Row.{fits};
 ghost use Rattle.ts_space.specs.Directory.{places_of};
 ghost use Rattle.ts_irregular.specs.Call.{Reads};
-ghost use Rattle.ts_chain.specs.Places.{ArePlaces, CanBeRead};
+ghost use Rattle.ts_sheets.specs.Places.{ArePlaces, CanBeRead};
 ghost use Rattle.ts_entry.specs.Reading.{first_seen};
 ghost use Rattle.ts_clip.specs.Chain.{HoldsOfChain, HoldsOfPage};
 

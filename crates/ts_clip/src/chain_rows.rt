@@ -5,8 +5,8 @@ ghost use Rattle.ts_cells.specs.Cell.{page_room};
 ghost use Rattle.ts_offset.specs.declared.shape.Shape.TheVariants.{Irregular};
 ghost use Rattle.ts_irregular.specs.Call.{Reads};
 ghost use Rattle.ts_irregular.specs.OnePage.{IsOn};
-ghost use Rattle.ts_chain.specs.Places.{CanBeRead};
-ghost use Rattle.ts_chain.specs.Range.{within_range};
+ghost use Rattle.ts_sheets.specs.Places.{CanBeRead};
+ghost use Rattle.ts_sheets.specs.Range.{within_range};
 ghost use Rattle.ts_clip.specs.Chain.{HoldsOfMore, HoldsOfPage};
 ghost use Rattle.ts_clip.specs.Series.{HaveOnPlaces, IsToldOnPlaces, ArePagesOf};
 

@@ -4,9 +4,9 @@ ghost use Rattle.std.specs.Prelude.{◌≡◌, ◌+◌, ◌-◌, ◌^◌, ◌≤
 ghost use Rattle.ts_space.specs.Place.{count_of};
 ghost use Rattle.ts_row.specs.Element.{has_hidden};
 ghost use Rattle.ts_irregular.specs.Call.{Reads};
-ghost use Rattle.ts_chain.specs.Chain.{ArePages, all_in};
-ghost use Rattle.ts_chain.specs.Places.{CanBeRead};
-ghost use Rattle.ts_chain.specs.Range.{within_range};
+ghost use Rattle.ts_sheets.specs.Chain.{ArePages, all_in};
+ghost use Rattle.ts_sheets.specs.Places.{CanBeRead};
+ghost use Rattle.ts_sheets.specs.Range.{within_range};
 ghost use Rattle.ts_clip.specs.Chain.{AreBounded, HoldsOfPages};
 
 use crate::chain_pages::count_pages;

@@ -3,8 +3,8 @@ ghost use Rattle.std.specs.Prelude.{◌≡◌, ◌<◌, ◌≤◌, ◌^◌, IfOk
 ghost use Rattle.ts_row.specs.Element.{seen};
 ghost use Rattle.ts_space.specs.Directory.{places_of};
 ghost use Rattle.ts_irregular.specs.Call.{Reads};
-ghost use Rattle.ts_chain.specs.Places.{ArePlaces};
-ghost use Rattle.ts_chain.specs.Range.{within_range};
+ghost use Rattle.ts_sheets.specs.Places.{ArePlaces};
+ghost use Rattle.ts_sheets.specs.Range.{within_range};
 ghost use Rattle.ts_entry.specs.Entry.{AreTaken, filled};
 ghost use Rattle.ts_entry.specs.Reading.{last_ones, most_rows};
 ghost use Rattle.ts_clip.specs.Chain.{HoldsOfChain, first_moment};

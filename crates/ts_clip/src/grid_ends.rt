@@ -4,7 +4,7 @@ ghost use Rattle.ts_row.specs.Row.{fits};
 ghost use Rattle.ts_space.specs.Directory.{places_of};
 ghost use Rattle.ts_calendar.specs.Intervals.{IsLaid};
 ghost use Rattle.ts_regular.specs.Places.{ArePlaces, CanBeRead, all_in};
-ghost use Rattle.ts_regular_edits.specs.Stamped.{stamped_one};
+ghost use Rattle.ts_sheets.specs.Stamped.{stamped_one};
 ghost use Rattle.ts_irregular.specs.Call.{Reads};
 ghost use Rattle.ts_irregular.specs.Edit.{last_seen};
 ghost use Rattle.ts_entry.specs.Reading.{first_seen};

@@ -7,7 +7,7 @@ ghost use Rattle.ts_regular.specs.RegularPage.{HoldsOfCells};
 ghost use Rattle.ts_regular.specs.Places.{OffsetPage, CanBeRead, IsOn};
 ghost use Rattle.ts_calendar.specs.Intervals.{IsLaid};
 ghost use Rattle.ts_irregular.specs.Call.{Reads};
-ghost use Rattle.ts_regular_edits.specs.Stamped.{stamped, HaveStarts};
+ghost use Rattle.ts_sheets.specs.Stamped.{stamped, HaveStarts};
 ghost use Rattle.ts_clip.specs.Grid.{HoldsOfCellPage};
 
 use crate::grid_cells::cell_size;

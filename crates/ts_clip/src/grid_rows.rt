@@ -5,10 +5,10 @@ ghost use Rattle.ts_calendar.specs.Intervals.{IsLaid};
 ghost use Rattle.ts_offset.specs.declared.shape.Shape.TheVariants.{Regular};
 ghost use Rattle.ts_regular.specs.Places.{OffsetPage, AreOn, CanBeRead, all_in};
 ghost use Rattle.ts_irregular.specs.Call.{Reads};
-ghost use Rattle.ts_chain.specs.Range.{within_range};
+ghost use Rattle.ts_sheets.specs.Range.{within_range};
 ghost use Rattle.ts_clip.specs.Series.{HaveOnPlaces, IsToldOnPlaces, ArePagesOf};
 ghost use Rattle.ts_regular.specs.Range.{within};
-ghost use Rattle.ts_regular_edits.specs.Stamped.{stamped, HaveStarts};
+ghost use Rattle.ts_sheets.specs.Stamped.{stamped, HaveStarts};
 ghost use Rattle.ts_clip.specs.Grid.{HoldsOfCellPages};
 
 use crate::grid_offsets::{Offsets, offsets_of};

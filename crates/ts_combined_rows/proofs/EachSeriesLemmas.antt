@@ -11,7 +11,7 @@ use Rattle.ts_row.specs.RowType.{Heading}
 use Rattle.ts_row.specs.declared.kind.Column.{Column}
 use Rattle.ts_row.specs.Row.{Row}
 use Rattle.ts_space.specs.Directory.{places_of}
-use Rattle.ts_chain.specs.Range.{within_range}
+use Rattle.ts_sheets.specs.Range.{within_range}
 use Rattle.ts_offset.specs.declared.shape.Shape.{Shape}
 use Rattle.ts_expr.specs.declared.item.Item.{Item}
 use Rattle.ts_expr.specs.Grammar.{read_list}

@@ -13,7 +13,7 @@ use Rattle.ts_space.specs.declared.place.Place.{Place}
 use Rattle.ts_space.specs.Directory.{Directory}
 use Rattle.ts_irregular.specs.Call.{Reads}
 use Rattle.ts_irregular.specs.OnePage.{IsPlace}
-use Rattle.ts_chain.specs.Places.{CanBeRead}
+use Rattle.ts_sheets.specs.Places.{CanBeRead}
 use Rattle.ts_regular.specs.Places as regular
 use Rattle.ts_offset.specs.declared.shape.Shape.{Shape}
 use Rattle.ts_offset.specs.declared.shape.Shape.TheVariants.{Irregular, Regular}

@@ -7,7 +7,7 @@ use Rattle.ts_row.specs.RowType.{Heading}
 use Rattle.ts_row.specs.Element.{Element, seen}
 use Rattle.ts_space.specs.Directory.{places_of}
 use Rattle.ts_irregular.specs.Call.{Reads}
-use Rattle.ts_chain.specs.Range.{is_within, within_range}
+use Rattle.ts_sheets.specs.Range.{is_within, within_range}
 use Rattle.ts_pattern.specs.declared.junction.Junction.{Junction}
 use Rattle.ts_pattern.specs.declared.junction.Junction.TheVariants.{And, Or}
 use Rattle.ts_offset.specs.declared.shape.Shape.{Shape}

@@ -14,7 +14,7 @@ use Rattle.ts_row.specs.Element.{Element, seen}
 use Rattle.ts_space.specs.Directory.{places_of}
 use Rattle.ts_irregular.specs.Call.{Reads}
 use Rattle.ts_irregular.proofs.EditLemmas.{int_lt_yes, int_lt_no}
-use Rattle.ts_chain.specs.Range.{within_range}
+use Rattle.ts_sheets.specs.Range.{within_range}
 use Rattle.ts_calendar.specs.Intervals.{IsLaid}
 use Rattle.ts_offset.specs.Walk.{on_starts}
 use Rattle.ts_offset.specs.Grid.{GridPlan}

@@ -6,7 +6,7 @@ use Rattle.ts_row.specs.declared.kind.Column.{Column}
 use Rattle.ts_row.specs.RowType.{Heading}
 use Rattle.ts_row.specs.Element.{Element, seen}
 use Rattle.ts_space.specs.Directory.{places_of}
-use Rattle.ts_chain.specs.Range.{within_range}
+use Rattle.ts_sheets.specs.Range.{within_range}
 use Rattle.ts_offset.specs.declared.shape.Shape.{Shape}
 use Rattle.ts_clip.specs.Series.{HaveElements, IsLaidOut, IsTold}
 use Rattle.ts_model.specs.Catalogue.{Series, Catalogue, columns_of, shape_of}

@@ -10,7 +10,7 @@ use Rattle.ts_row.specs.RowType.{Heading}
 use Rattle.ts_row.specs.Row.{Row}
 use Rattle.ts_row.specs.Element.{Element}
 use Rattle.ts_space.specs.Directory.{places_of}
-use Rattle.ts_chain.specs.Range.{within_range}
+use Rattle.ts_sheets.specs.Range.{within_range}
 use Rattle.ts_expr.specs.Binding.{Binding}
 use Rattle.ts_expr.specs.Fold.{folded_row}
 use Rattle.ts_clip.specs.Series.{HaveOnPlaces}

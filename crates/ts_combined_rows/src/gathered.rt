@@ -2,7 +2,7 @@
 ghost use Rattle.std.specs.Prelude.{◌≡◌, ◌+◌, ◌<◌, ◌≤◌, ◌++◌, ℕ, All, IfOk, IfSome, List, length};
 ghost use Rattle.ts_page.specs.declared.page.Page.{Page};
 ghost use Rattle.ts_irregular.specs.Call.{Reads};
-ghost use Rattle.ts_chain.specs.Places.{CanBeRead};
+ghost use Rattle.ts_sheets.specs.Places.{CanBeRead};
 ghost use Rattle.ts_model.specs.declared.kind.Kind.TheVariants.{Series};
 ghost use Rattle.ts_model.specs.Definitions.{at_slot, series_slots};
 ghost use Rattle.ts_answer.specs.Slots.{IsSlotNamed};

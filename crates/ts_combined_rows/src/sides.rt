@@ -3,7 +3,7 @@ ghost use Rattle.std.specs.Prelude.{◌≡◌, ◌<◌, IfOk, Some, option_copie
 ghost use Rattle.ts_row.specs.Element.{seen};
 ghost use Rattle.ts_space.specs.Directory.{places_of};
 ghost use Rattle.ts_irregular.specs.Call.{Reads};
-ghost use Rattle.ts_chain.specs.Range.{within_range};
+ghost use Rattle.ts_sheets.specs.Range.{within_range};
 ghost use Rattle.ts_offset.specs.declared.shape.Shape.{Shape as TheShape};
 ghost use Rattle.ts_clip.specs.Series.{ArePlaces, IsLaidOut, IsTold};
 ghost use Rattle.ts_combine.specs.Series.{side_of, HasCalendar, IsGivenFor};

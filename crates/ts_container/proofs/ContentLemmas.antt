@@ -22,7 +22,7 @@ use Rattle.ts_regular.specs.Offsets as offsets
 use Rattle.ts_regular.specs.RegularPage.{IsRegularPage}
 use Rattle.ts_regular.specs.RegularPage as regular
 use Rattle.ts_regular.proofs.CellsLemmas.{count_in}
-use Rattle.ts_regular_edits.specs.Stamped.{stamped, HaveStarts}
+use Rattle.ts_sheets.specs.Stamped.{stamped, HaveStarts}
 use Rattle.ts_offset.specs.Grid.{GridPlan, stamp_of}
 use Rattle.ts_offset.specs.declared.shape.Shape.{Shape}
 use Rattle.ts_offset.specs.declared.shape.Shape.TheVariants.{Irregular, Regular}

@@ -7,8 +7,8 @@ use Rattle.std.proofs.lemmas.List.Kept.{AllPairs-cons}
 use Rattle.ts_row.specs.declared.kind.Column.{Column}
 use Rattle.ts_cells.specs.Cell.{Element, page_room}
 use Rattle.ts_cells.specs.IrregularPage.{AreElements, AreRising, last_stamp}
-use Rattle.ts_chain.specs.Chain.{all_in, AreLater, AreBefore, ArePages, AreSized, IsDense, IsChain}
-use Rattle.ts_chain.proofs.OrderLemmas.{later_than, later_of, later_back, rising_both, elements_both, pages_made}
+use Rattle.ts_sheets.specs.Chain.{all_in, AreLater, AreBefore, ArePages, AreSized, IsDense, IsChain}
+use Rattle.ts_sheets.proofs.OrderLemmas.{later_than, later_of, later_back, rising_both, elements_both, pages_made}
 use Rattle.ts_offset.specs.Grid.{GridPlan}
 use Rattle.ts_offset.specs.declared.shape.Shape.{Shape}
 use Rattle.ts_offset.specs.declared.shape.Shape.TheVariants.{Irregular, Regular}

@@ -10,8 +10,8 @@ use Rattle.ts_regular.specs.Cell.{Cell}
 use Rattle.ts_regular.specs.Offsets.{OffsetElement, elements_from, AreRising, last_of, last_offset}
 use Rattle.ts_regular.specs.RegularPage.{HasExtent}
 use Rattle.ts_regular.proofs.CellsLemmas.{rising_cells}
-use Rattle.ts_regular_edits.specs.Stamped.{HaveStarts}
-use Rattle.ts_regular_edits.proofs.StartLemmas.{few_starts}
+use Rattle.ts_sheets.specs.Stamped.{HaveStarts}
+use Rattle.ts_sheets.proofs.StartLemmas.{few_starts}
 
 there_is : {A : Type 0} (o : Option A) → IsSome o → (a : A) × (o ≡ Some a)
 there_is None some = absurd (cc)

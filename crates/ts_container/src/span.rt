@@ -4,7 +4,7 @@ ghost use Rattle.ts_page.specs.Head.{head_of};
 ghost use Rattle.ts_regular.specs.Cell.{Cell};
 ghost use Rattle.ts_regular.specs.Offsets.{elements_from};
 ghost use Rattle.ts_regular.specs.RegularPage.{HasExtent};
-ghost use Rattle.ts_regular_edits.specs.Stamped.{HaveStarts};
+ghost use Rattle.ts_sheets.specs.Stamped.{HaveStarts};
 ghost use Rattle.ts_offset.specs.declared.shape.Shape.TheVariants.{Irregular, Regular as OnGrid};
 ghost use Rattle.ts_container.specs.Elements.{slot_in};
 ghost use Rattle.ts_container.specs.Spans.{IsSpanFound};

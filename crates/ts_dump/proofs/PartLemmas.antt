@@ -19,12 +19,12 @@ use Rattle.ts_row.specs.declared.kind.Column.{Column}
 use Rattle.ts_row.specs.Element.{Element}
 use Rattle.ts_space.specs.declared.place.Place.{Place}
 use Rattle.ts_cells.specs.IrregularPage.{AreElements}
-use Rattle.ts_chain.specs.Chain.{all_in}
-use Rattle.ts_chain.specs.Places.{AreChained}
-use Rattle.ts_chain.specs.Range.{is_within, within_range}
+use Rattle.ts_sheets.specs.Chain.{all_in}
+use Rattle.ts_sheets.specs.Places.{AreChained}
+use Rattle.ts_sheets.specs.Range.{is_within, within_range}
 use Rattle.ts_regular.specs.Offsets.{OffsetElement, elements_from}
 use Rattle.ts_regular.specs.Places.{OffsetPage, AreOn, all_in as all_at}
-use Rattle.ts_regular_edits.specs.Stamped.{stamped, stamped_one, HaveStarts}
+use Rattle.ts_sheets.specs.Stamped.{stamped, stamped_one, HaveStarts}
 use Rattle.ts_layout.proofs.CallerLemmas.{all_front, all_back}
 use Rattle.ts_shelf.proofs.StartLemmas.{start_of, stamped_cons}
 use Rattle.ts_page.specs.declared.page.Page.{Page}

@@ -17,10 +17,10 @@ use Rattle.ts_space.proofs.ChargeLemmas.{charge_grows}
 use Rattle.ts_cells.specs.Cell.{page_room}
 use Rattle.ts_irregular.specs.Edit.{element_at, with_element, without_element}
 use Rattle.ts_irregular.specs.OnePage.{IsPlace}
-use Rattle.ts_chain.specs.Chain.{IsChain, all_in}
-use Rattle.ts_chain.specs.Places as chain
+use Rattle.ts_sheets.specs.Chain.{IsChain, all_in}
+use Rattle.ts_sheets.specs.Places as chain
 use Rattle.ts_chain.specs.Call as call
-use Rattle.ts_chain.proofs.OrderLemmas.{pages_in_order}
+use Rattle.ts_sheets.proofs.OrderLemmas.{pages_in_order}
 use Rattle.ts_chain.proofs.PutLemmas.{chained_count}
 use Rattle.ts_series.specs.declared.edits.EditKind.{EditKind}
 use Rattle.ts_series.specs.declared.edits.Edited.{Edited}

@@ -15,7 +15,7 @@ use Rattle.ts_space.specs.Place.{IsRising}
 use Rattle.ts_space.specs.Directory.{Directory, places_of}
 use Rattle.ts_cells.specs.Cell.{page_room}
 use Rattle.ts_irregular.specs.Edit.{element_at, with_element}
-use Rattle.ts_chain.specs.Placing.{place_for}
+use Rattle.ts_sheets.specs.Placing.{place_for}
 use Rattle.ts_series.specs.declared.edits.EditKind.{EditKind}
 use Rattle.ts_series.specs.declared.edits.EditKind.TheVariants.{Put, PutNoDups, Insert, Update}
 use Rattle.ts_calendar.specs.Plan.{CalendarPlan}

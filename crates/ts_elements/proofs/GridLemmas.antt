@@ -22,15 +22,15 @@ use Rattle.ts_regular.specs.Places.{all_in as all_at}
 use Rattle.ts_regular.specs.Call as call
 use Rattle.ts_regular.specs.Range.{is_between, outside}
 use Rattle.ts_regular.proofs.PlaceLemmas.{pages_rise}
-use Rattle.ts_chain.specs.Range.{within_range, without_range}
-use Rattle.ts_regular_edits.specs.Stamped.{stamped, HaveStarts}
+use Rattle.ts_sheets.specs.Range.{within_range, without_range}
+use Rattle.ts_sheets.specs.Stamped.{stamped, HaveStarts}
 use Rattle.ts_regular_edits.specs.Address.{IsAddressed}
 use Rattle.ts_regular_edits.specs.Edit as edit
 use Rattle.ts_regular_edits.specs.Element as element
 use Rattle.ts_regular_edits.proofs.StampLemmas.{found_stamped, put_stamped, taken_stamped}
 use Rattle.ts_regular_edits.specs.Range.{IsClearedAt}
 use Rattle.ts_regular_edits.proofs.RangeLemmas.{within_stamped, within_number, outside_stamped}
-use Rattle.ts_regular_edits.proofs.ChargeLemmas.{charged_with}
+use Rattle.ts_sheets.proofs.ChargeLemmas.{charged_with}
 use Rattle.ts_series.specs.declared.edits.EditKind.{EditKind}
 use Rattle.ts_series.specs.declared.edits.Edited.{Edited}
 use Rattle.ts_series.specs.declared.edits.Edited.TheVariants as edited

@@ -18,7 +18,7 @@ use Rattle.ts_space.specs.Place.{pages_of}
 use Rattle.ts_space.specs.Moved.{list_of, moved_to}
 use Rattle.ts_space.specs.Directory.{places_of}
 use Rattle.ts_irregular.specs.Edit.{element_at, without_element}
-use Rattle.ts_chain.specs.Range.{is_within, within_range, without_range}
+use Rattle.ts_sheets.specs.Range.{is_within, within_range, without_range}
 use Rattle.ts_offset.specs.declared.shape.Shape.{Shape}
 use Rattle.ts_model.specs.Catalogue.{Elements}
 use Rattle.ts_layout.specs.Meaning.{Layout, elements_at, series_of, catalogue_of}

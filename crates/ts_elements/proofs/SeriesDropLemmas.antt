@@ -16,7 +16,7 @@ use Rattle.ts_irregular.specs.OnePage.{IsPlace}
 use Rattle.ts_regular.specs.Places as cells
 use Rattle.ts_offset.specs.declared.shape.Shape.{Shape}
 use Rattle.ts_offset.specs.declared.shape.Shape.TheVariants.{Irregular, Regular}
-use Rattle.ts_chain.specs.Places.{CanBeFreed}
+use Rattle.ts_sheets.specs.Places.{CanBeFreed}
 use Rattle.ts_chain.specs.Call.{AreFreed}
 use Rattle.ts_model.specs.declared.kind.Kind.TheVariants as kinds
 use Rattle.ts_model.specs.Definitions.{Definitions, with_slot}

@@ -11,7 +11,7 @@ use Rattle.ts_cells.specs.IrregularPage.{AreRising}
 use Rattle.ts_chain.proofs.PutLemmas.{chained_count}
 use Rattle.ts_regular.specs.Places.{all_in as all_at}
 use Rattle.ts_regular.proofs.PlaceLemmas.{pages_rise}
-use Rattle.ts_regular_edits.proofs.ChargeLemmas.{charged}
+use Rattle.ts_sheets.proofs.ChargeLemmas.{charged}
 use Rattle.ts_offset.specs.declared.shape.Shape.{Shape}
 use Rattle.ts_offset.specs.declared.shape.Shape.TheVariants.{Irregular, Regular}
 use Rattle.ts_model.specs.Charge.{elements_charge}

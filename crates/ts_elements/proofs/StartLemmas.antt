@@ -9,7 +9,7 @@ use Rattle.ts_row.specs.Row.{Row}
 use Rattle.ts_offset.specs.Grid.{GridPlan, stamp_of}
 use Rattle.ts_regular.specs.Offsets as offsets
 use Rattle.ts_regular.specs.Offsets.{OffsetElement}
-use Rattle.ts_regular_edits.specs.Stamped.{HaveStarts}
+use Rattle.ts_sheets.specs.Stamped.{HaveStarts}
 use Rattle.ts_shelf.proofs.StartLemmas.{HasStart}
 
 -- an element more at an offset with a start, and elements left

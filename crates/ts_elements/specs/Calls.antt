@@ -11,7 +11,7 @@ use Rattle.ts_space.specs.declared.place.Place.{Place}
 use Rattle.ts_space.specs.declared.moved.Moved.{Moved}
 use Rattle.ts_space.specs.Moved.{moved_to}
 use Rattle.ts_irregular.specs.Edit.{element_at, with_element, without_element}
-use Rattle.ts_chain.specs.Range.{within_range, without_range}
+use Rattle.ts_sheets.specs.Range.{within_range, without_range}
 use Rattle.ts_series.specs.declared.edits.EditKind.{EditKind}
 use Rattle.ts_series.specs.declared.edits.Edited.{Edited}
 use Rattle.ts_series.specs.declared.edits.Edited.TheVariants as edited

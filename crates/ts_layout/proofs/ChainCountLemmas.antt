@@ -18,9 +18,9 @@ use Rattle.ts_space.specs.Directory.{Directory, places_of}
 use Rattle.ts_offset.specs.declared.shape.Shape.TheVariants.{Irregular}
 use Rattle.ts_cells.specs.Cell.{page_room}
 use Rattle.ts_page.specs.Volume.{first_element_page}
-use Rattle.ts_chain.specs.Chain.{all_in}
-use Rattle.ts_chain.proofs.OrderLemmas.{sized_pages}
-use Rattle.ts_chain.proofs.DenseLemmas.{within_charge}
+use Rattle.ts_sheets.specs.Chain.{all_in}
+use Rattle.ts_sheets.proofs.OrderLemmas.{sized_pages}
+use Rattle.ts_sheets.proofs.DenseLemmas.{within_charge}
 use Rattle.ts_layout.specs.Sheets.{Sheet, elements_in, place_of_sheet}
 use Rattle.ts_layout.specs.Meaning.{ElementPage, Free, Cells, Layout, element_page, elements_on, elements_of, sheets_of, elements_at, heading_at, shape_at, IsSound}
 use Rattle.ts_layout.specs.Surveyed.{places_on, places_from, ListsPlaces}

@@ -22,10 +22,10 @@ use Rattle.ts_regular.specs.Places.{OffsetPage, all_in}
 use Rattle.ts_regular.proofs.OffsetLemmas.{AreMore, more_both}
 use Rattle.ts_regular.proofs.CellsLemmas.{count_in, count_within, more_cells, rising_cells}
 use Rattle.ts_regular.proofs.PlaceLemmas.{multiples}
-use Rattle.ts_regular_edits.specs.Charge.{charge_of}
-use Rattle.ts_regular_edits.specs.Stamped.{stamped, HaveStarts}
-use Rattle.ts_regular_edits.proofs.ChargeLemmas.{one_page, cells_on, none_hit}
-use Rattle.ts_regular_edits.proofs.StartLemmas.{stamps_rise}
+use Rattle.ts_sheets.specs.Charge.{charge_of}
+use Rattle.ts_sheets.specs.Stamped.{stamped, HaveStarts}
+use Rattle.ts_sheets.proofs.ChargeLemmas.{one_page, cells_on, none_hit}
+use Rattle.ts_sheets.proofs.StartLemmas.{stamps_rise}
 use Rattle.ts_model.specs.Charge.{offsets_on, elements_charge}
 use Rattle.ts_layout.specs.Sheets.{Sheet, FillGridSheet, BeginInOrder, elements_in}
 use Rattle.ts_layout.specs.Chains.{by_stamp, grid_sheets}

@@ -19,7 +19,7 @@ use Rattle.ts_regular.specs.Offsets.{elements_from}
 use Rattle.ts_regular.specs.RegularPage.{AreCells, filled_count, IsRegularPage, cells_bytes as grid_cells_bytes, behind_head as behind_grid_head}
 use Rattle.ts_regular.proofs.BytesLemmas.{length-cell}
 use Rattle.ts_regular.proofs.HeadLemmas.{head_told, behind_told, front_cells as front_grid_cells}
-use Rattle.ts_regular_edits.specs.Stamped.{stamped}
+use Rattle.ts_sheets.specs.Stamped.{stamped}
 use Rattle.ts_offset.specs.Grid.{GridPlan}
 use Rattle.ts_offset.specs.declared.shape.Shape.{Shape}
 use Rattle.ts_offset.specs.declared.shape.Shape.TheVariants.{Irregular, Regular}

@@ -10,7 +10,7 @@ use Rattle.std.proofs.lemmas.List.Elements.{All-append, All-contains, Contains-g
 use Rattle.std.proofs.lemmas.List.Kept.{AllPairs-cons}
 use Rattle.std.proofs.lemmas.List.Sorted.{IsPermutation-refl, IsPermutation-trans, IsPermutation-append_left, IsPermutation-append_right, IsPermutation-append_comm, IsPermutation-keeps}
 use Rattle.ts_row.specs.Element.{Element}
-use Rattle.ts_chain.specs.Chain.{all_in}
+use Rattle.ts_sheets.specs.Chain.{all_in}
 
 -- where an element stood before two were exchanged
 abbrev turned : ℕ → ℕ → ℕ → ℕ

@@ -15,7 +15,7 @@ use Rattle.ts_space.specs.Directory.{Directory, places_of, used_of}
 use Rattle.ts_cells.specs.Cell.{page_room}
 use Rattle.ts_page.specs.Volume.{first_element_page}
 use Rattle.ts_irregular.specs.OnePage.{IsPlace}
-use Rattle.ts_chain.specs.Places as chain
+use Rattle.ts_sheets.specs.Places as chain
 use Rattle.ts_regular.specs.Cell.{regular_room}
 use Rattle.ts_regular.specs.Places as regular
 use Rattle.ts_offset.specs.Grid.{GridPlan}

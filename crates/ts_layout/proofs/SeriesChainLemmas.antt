@@ -16,7 +16,7 @@ use Rattle.ts_offset.specs.Grid.{GridPlan}
 use Rattle.ts_offset.specs.declared.shape.Shape.{Shape}
 use Rattle.ts_offset.specs.declared.shape.Shape.TheVariants.{Irregular, Regular}
 use Rattle.ts_regular.specs.Places.{OffsetPage, all_in as all_at}
-use Rattle.ts_regular_edits.specs.Stamped.{stamped}
+use Rattle.ts_sheets.specs.Stamped.{stamped}
 use Rattle.ts_layout.specs.Limits.{AreOfFormat}
 use Rattle.ts_layout.specs.Sheets.{Sheet, FillSheet, HoldsSheet, BeginInOrder, AreInSequence, AreSheetsOn, elements_in, place_of_sheet}
 use Rattle.ts_layout.specs.Meaning.{ElementPage, Cells, Layout, HoldsElements, HoldsLayout, IsSound, heading_at, shape_at, elements_of, sheets_of, elements_at}

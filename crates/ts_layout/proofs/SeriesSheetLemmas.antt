@@ -11,12 +11,12 @@ use Rattle.ts_offset.specs.Grid.{GridPlan, stamp_of}
 use Rattle.ts_offset.specs.declared.shape.Shape.{Shape}
 use Rattle.ts_offset.specs.declared.shape.Shape.TheVariants.{Irregular, Regular}
 use Rattle.ts_cells.specs.IrregularPage.{first_stamp}
-use Rattle.ts_chain.specs.Chain.{IsChain, all_in}
-use Rattle.ts_chain.specs.Places.{AreChained}
+use Rattle.ts_sheets.specs.Chain.{IsChain, all_in}
+use Rattle.ts_sheets.specs.Places.{AreChained}
 use Rattle.ts_regular.specs.Offsets.{OffsetElement, elements_from}
 use Rattle.ts_regular.specs.Places.{OffsetPage, AreOn, all_in as all_at}
 use Rattle.ts_regular.proofs.CellsLemmas.{count_in}
-use Rattle.ts_regular_edits.specs.Stamped.{stamped, HaveStarts}
+use Rattle.ts_sheets.specs.Stamped.{stamped, HaveStarts}
 use Rattle.ts_layout.specs.Sheets.{Sheet, FillSheet, BeginInOrder, AreInSequence, AreSheetsOn, elements_in}
 use Rattle.ts_layout.specs.Chains.{chain_sheets, grid_sheets}
 use Rattle.ts_layout.proofs.GridLemmas.{grid_elements}

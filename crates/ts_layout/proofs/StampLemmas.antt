@@ -14,8 +14,8 @@ use Rattle.ts_row.specs.declared.kind.Column.{Column}
 use Rattle.ts_cells.specs.Cell.{Element}
 use Rattle.ts_cells.specs.IrregularPage.{AreInOrder, AreRising}
 use Rattle.ts_irregular.specs.Edit.{element_at, with_element, without_element}
-use Rattle.ts_chain.specs.Chain.{AreLater}
-use Rattle.ts_chain.proofs.OrderLemmas.{later_of, rising_tail}
+use Rattle.ts_sheets.specs.Chain.{AreLater}
+use Rattle.ts_sheets.proofs.OrderLemmas.{later_of, rising_tail}
 use Rattle.ts_layout.specs.Chains.{by_stamp}
 use Rattle.ts_layout.proofs.MemberLemmas.{Among, among_permuted}
 

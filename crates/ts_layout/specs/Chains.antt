@@ -11,12 +11,12 @@ use Rattle.ts_space.specs.Place.{IsRising, count_of, pages_of}
 use Rattle.ts_cells.specs.Cell.{Element, page_room}
 use Rattle.ts_regular.specs.Offsets.{elements_from}
 use Rattle.ts_regular.specs.Places.{OffsetPage, AreOn, all_in as all_at}
-use Rattle.ts_regular_edits.specs.Stamped.{stamped, HaveStarts}
+use Rattle.ts_sheets.specs.Stamped.{stamped, HaveStarts}
 use Rattle.ts_offset.specs.Grid.{GridPlan}
 use Rattle.ts_offset.specs.declared.shape.Shape.{Shape}
 use Rattle.ts_cells.specs.IrregularPage.{first_stamp}
-use Rattle.ts_chain.specs.Chain.{IsChain, all_in}
-use Rattle.ts_chain.specs.Places.{AreChained}
+use Rattle.ts_sheets.specs.Chain.{IsChain, all_in}
+use Rattle.ts_sheets.specs.Places.{AreChained}
 use Rattle.ts_model.specs.Catalogue.{Catalogue, Elements}
 use Rattle.ts_model.specs.declared.kind.Kind.TheVariants as kinds
 use Rattle.ts_model.specs.Kinds.{with_named}

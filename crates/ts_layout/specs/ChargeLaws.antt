@@ -4,8 +4,8 @@ use Rattle.ts_row.specs.RowType.{Heading}
 use Rattle.ts_space.specs.Directory.{Directory, places_of}
 use Rattle.ts_row.specs.declared.kind.Column.{Column}
 use Rattle.ts_regular.specs.Offsets.{OffsetElement, AreRising}
-use Rattle.ts_regular_edits.specs.Charge.{charge_of}
-use Rattle.ts_regular_edits.specs.Stamped.{stamped, HaveStarts}
+use Rattle.ts_sheets.specs.Charge.{charge_of}
+use Rattle.ts_sheets.specs.Stamped.{stamped, HaveStarts}
 use Rattle.ts_calendar.specs.Intervals.{IsLaid}
 use Rattle.ts_offset.specs.Grid.{GridPlan}
 use Rattle.ts_offset.specs.declared.shape.Shape.{Shape}

@@ -8,7 +8,7 @@ use Rattle.ts_page.specs.Volume.{first_element_page, most_element_pages}
 use Rattle.ts_page.specs.Pages.{Contents}
 use Rattle.ts_space.specs.Place.{pages_of}
 use Rattle.ts_cells.specs.Cell.{page_room}
-use Rattle.ts_chain.specs.Places as chain
+use Rattle.ts_sheets.specs.Places as chain
 use Rattle.ts_regular.specs.Places as regular
 use Rattle.ts_offset.specs.Grid.{GridPlan}
 use Rattle.ts_offset.specs.declared.shape.Shape.{Shape}

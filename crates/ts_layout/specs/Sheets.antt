@@ -7,12 +7,12 @@ use Rattle.ts_space.specs.declared.place.Place.{Place}
 use Rattle.ts_cells.specs.Cell.{page_room}
 use Rattle.ts_cells.specs.IrregularPage.{IsIrregularPage, first_stamp}
 use Rattle.ts_cells.specs.IrregularPage as irregular
-use Rattle.ts_chain.specs.Chain.{IsChain}
+use Rattle.ts_sheets.specs.Chain.{IsChain}
 use Rattle.ts_regular.specs.Cell.{Cell, regular_room}
 use Rattle.ts_regular.specs.Offsets.{elements_from}
 use Rattle.ts_regular.specs.RegularPage.{IsRegularPage}
 use Rattle.ts_regular.specs.RegularPage as regular
-use Rattle.ts_regular_edits.specs.Stamped.{stamped, HaveStarts}
+use Rattle.ts_sheets.specs.Stamped.{stamped, HaveStarts}
 use Rattle.ts_offset.specs.Grid.{GridPlan}
 use Rattle.ts_offset.specs.declared.shape.Shape.{Shape}
 use Rattle.ts_offset.specs.declared.shape.Shape.TheVariants.{Irregular, Regular}

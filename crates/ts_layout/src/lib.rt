@@ -1,7 +1,7 @@
 //! What the pages of a volume mean, and what holds of it: definitions in their slots and elements on their pages are a
 //! layout, and a layout that keeps the rules means one catalogue (`specs/Meaning`). The laws tell where names stand in
 //! slots, what a slot that is filled or emptied, a series that gets other pages or goes with its pages and another
-//! format change, and what containers are charged. Reads and writes no page; stands on ts_chain, ts_cells, ts_space,
+//! format change, and what containers are charged. Reads and writes no page; stands on ts_sheets, ts_cells, ts_space,
 //! ts_model and ts_page. Read `specs/Slot.antt` and `specs/Meaning.antt`, then `specs/Laws.antt`, which has what the
 //! laws of `laws.rt` state, as `specs/ChainLaws.antt` and others have for the files of their names; for what changes
 //! with the pages of a series `specs/Chains.antt` first, for what is kept in memory `specs/Placed.antt`.

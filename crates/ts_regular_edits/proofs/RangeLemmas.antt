@@ -11,13 +11,13 @@ use Rattle.ts_space.proofs.PlaceLemmas.{int_lt_yes, int_lt_no}
 use Rattle.ts_offset.specs.Walk.{on_starts}
 use Rattle.ts_offset.specs.Grid.{GridPlan, starts_before, starts_of, stamp_of}
 use Rattle.ts_row.specs.Element.{Element}
-use Rattle.ts_chain.specs.Range.{is_within, within_range, without_range}
+use Rattle.ts_sheets.specs.Range.{is_within, within_range, without_range}
 use Rattle.ts_regular.specs.Offsets.{OffsetElement}
 use Rattle.ts_regular.specs.Range.{is_between, within, outside}
-use Rattle.ts_regular_edits.specs.Stamped.{stamped, HaveStarts}
+use Rattle.ts_sheets.specs.Stamped.{stamped, HaveStarts}
 use Rattle.ts_regular_edits.specs.Range.{AreOffsetsOf, AreUpTo}
 use Rattle.ts_regular_edits.proofs.StampLemmas.{some_start, stamped_cons}
-use Rattle.ts_regular_edits.proofs.StartLemmas.{all_few, filtered_fewer, starts_rise, stamps_rise}
+use Rattle.ts_sheets.proofs.StartLemmas.{all_few, filtered_fewer, starts_rise, stamps_rise}
 
 -- how many of some stamps that rise lie before another
 before_low : (s x : ℤ) (xs : List ℤ) → x <ℤ s → length (filter (λ x. int_lt x s) (x ∷ xs)) ≡ suc (length (filter (λ x. int_lt x s) xs))

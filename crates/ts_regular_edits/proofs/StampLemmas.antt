@@ -15,8 +15,8 @@ use Rattle.ts_row.specs.Element.{Element}
 use Rattle.ts_irregular.specs.Edit as stamps
 use Rattle.ts_regular.specs.Offsets.{OffsetElement, element_at, with_element, without_element}
 use Rattle.ts_regular.proofs.OffsetLemmas.{lt_yes, lt_no, eq_yes, eq_no}
-use Rattle.ts_regular_edits.specs.Stamped.{stamped, HaveStarts}
-use Rattle.ts_regular_edits.proofs.StartLemmas.{stamps_rise}
+use Rattle.ts_sheets.specs.Stamped.{stamped, HaveStarts}
+use Rattle.ts_sheets.proofs.StartLemmas.{stamps_rise}
 
 one_start : (s t : ℤ) → ◌≡◌ {A = Option ℤ} (Some s) (Some t) → s ≡ t
 one_start s t same = cc

@@ -7,7 +7,7 @@ use Rattle.ts_space.specs.declared.moved.Moved.{Moved}
 use Rattle.ts_page.specs.Pages.{Contents}
 use Rattle.ts_row.specs.declared.kind.Column.{Column}
 use Rattle.ts_row.specs.Element.{Element}
-use Rattle.ts_chain.specs.Range.{is_within}
+use Rattle.ts_sheets.specs.Range.{is_within}
 use Rattle.ts_regular.specs.Range.{is_between, IsCleared}
 
 -- the offsets below this are those of the on starts up to a stamp, one at it included

@@ -10,10 +10,10 @@ ghost use Rattle.ts_irregular.specs.Edit as stamps;
 ghost use Rattle.ts_regular.specs.Offsets.{OffsetElement, element_at, with_element, without_element};
 ghost use Rattle.ts_regular.specs.Places.{OffsetPage, AreOn, all_in};
 ghost use Rattle.ts_regular.specs.Range.{within, outside};
-ghost use Rattle.ts_chain.specs.Range.{within_range, without_range};
+ghost use Rattle.ts_sheets.specs.Range.{within_range, without_range};
 ghost use Rattle.ts_regular_edits.specs.Range.{AreOffsetsOf};
-ghost use Rattle.ts_regular_edits.specs.Charge.{charge_of, pages_with};
-ghost use Rattle.ts_regular_edits.specs.Stamped.{stamped, HaveStarts};
+ghost use Rattle.ts_sheets.specs.Charge.{charge_of, pages_with};
+ghost use Rattle.ts_sheets.specs.Stamped.{stamped, HaveStarts};
 
 /// Stamps rise with their offsets, so distinct offsets have distinct stamps; and what is found, put and taken away at
 /// an offset is found, put and taken away at its stamp.

@@ -10,7 +10,7 @@ use Rattle.ts_base.specs.declared.fault.Trouble.TheVariants.{Refused, Memory}
 use Rattle.ts_command.specs.declared.command.Command.TheVariants.{RollingClip}
 use Rattle.ts_row.specs.declared.kind.Column.{Column}
 use Rattle.ts_row.specs.Element.{Element, seen}
-use Rattle.ts_chain.specs.Range.{within_range}
+use Rattle.ts_sheets.specs.Range.{within_range}
 use Rattle.ts_entry.specs.Entry.{filled}
 use Rattle.ts_entry.specs.Reading.{within_rows, most_rows}
 use Rattle.ts_offset.specs.Grid.{GridPlan}

@@ -10,7 +10,7 @@ use Rattle.std.specs.FinMap.{put, entries, empty, from_entries, entries-insert, 
 use Rattle.std.specs.FinMap.Entries.{by_order}
 use Rattle.ts_row.specs.RowType.{Heading}
 use Rattle.ts_row.specs.Element.{Element, seen}
-use Rattle.ts_chain.specs.Range.{within_range, is_within}
+use Rattle.ts_sheets.specs.Range.{within_range, is_within}
 use Rattle.ts_model.specs.declared.kind.Kind.TheVariants as kinds
 use Rattle.ts_model.specs.Catalogue.{name_cmp, Series}
 use Rattle.ts_model.specs.Definitions.{Definitions, SeriesDef, at_slot, slots, slot_of, IsDefinitions}

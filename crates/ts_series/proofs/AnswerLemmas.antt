@@ -12,10 +12,10 @@ use Rattle.ts_row.specs.Row.{Row}
 use Rattle.ts_row.specs.Element.{Element}
 use Rattle.ts_irregular.specs.Edit.{element_at}
 use Rattle.ts_irregular.specs.Call.{Stays, Reads}
-use Rattle.ts_chain.specs.Chain.{all_in}
-use Rattle.ts_chain.specs.Placing.{place_for}
+use Rattle.ts_sheets.specs.Chain.{all_in}
+use Rattle.ts_sheets.specs.Placing.{place_for}
 use Rattle.ts_chain.specs.Call.{IsTold, IsReplaced, IsPutNew, IsThereAlready, IsPlaceIn}
-use Rattle.ts_chain.proofs.OrderLemmas.{pages_in_order}
+use Rattle.ts_sheets.proofs.OrderLemmas.{pages_in_order}
 use Rattle.ts_series.specs.declared.edits.EditKind.TheVariants.{Put, PutNoDups, Update}
 use Rattle.ts_series.specs.declared.edits.Edited.{Edited}
 use Rattle.ts_series.specs.declared.edits.Edited.TheVariants as edited

@@ -7,11 +7,11 @@ use Rattle.ts_row.specs.declared.kind.Column.{Column}
 use Rattle.ts_row.specs.Element.{Element}
 use Rattle.ts_cells.specs.Cell.{page_room}
 use Rattle.ts_cells.specs.IrregularPage.{first_stamp}
-use Rattle.ts_chain.specs.Chain.{all_in, AreEarlier, AreLater, ArePages, AreSized, IsDense}
-use Rattle.ts_chain.specs.Places.{AreChained}
-use Rattle.ts_chain.specs.Placing.{earlier}
-use Rattle.ts_chain.proofs.OrderLemmas.{all_in-append, earlier_than, later_than}
-use Rattle.ts_chain.proofs.DenseLemmas.{MeetsLeft, MeetsRight, dense_left, dense_right, dense_made, meets_left, meets_right}
+use Rattle.ts_sheets.specs.Chain.{all_in, AreEarlier, AreLater, ArePages, AreSized, IsDense}
+use Rattle.ts_sheets.specs.Places.{AreChained}
+use Rattle.ts_sheets.specs.Placing.{earlier}
+use Rattle.ts_sheets.proofs.OrderLemmas.{all_in-append, earlier_than, later_than}
+use Rattle.ts_sheets.proofs.DenseLemmas.{MeetsLeft, MeetsRight, dense_left, dense_right, dense_made, meets_left, meets_right}
 use Rattle.ts_chain.proofs.PlaceLemmas.{above_than, chain_earlier}
 use Rattle.ts_chain.proofs.RemoveLemmas.{count_parts}
 use Rattle.ts_chain.proofs.SpreadLemmas.{first_both}

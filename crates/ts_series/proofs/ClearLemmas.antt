@@ -13,12 +13,12 @@ use Rattle.ts_row.specs.Element.{Element}
 use Rattle.ts_cells.specs.Cell.{page_room}
 use Rattle.ts_cells.specs.IrregularPage.{AreRising, AreInOrder, first_stamp}
 use Rattle.ts_irregular.specs.OnePage.{IsOn}
-use Rattle.ts_chain.specs.Chain.{all_in, AreEarlier, AreLater, ArePages, AreSized, IsDense, IsChain}
-use Rattle.ts_chain.specs.Places.{AreChained}
-use Rattle.ts_chain.specs.Placing.{earlier}
-use Rattle.ts_chain.specs.Range.{is_within, within_range, without_range}
-use Rattle.ts_chain.proofs.OrderLemmas.{all_in-append, later_front, pages_in_order, sized_pages, sized_front, sized_back, sized_both, pages_made}
-use Rattle.ts_chain.proofs.DenseLemmas.{dense_front, dense_back, dense_cons, dense_made}
+use Rattle.ts_sheets.specs.Chain.{all_in, AreEarlier, AreLater, ArePages, AreSized, IsDense, IsChain}
+use Rattle.ts_sheets.specs.Places.{AreChained}
+use Rattle.ts_sheets.specs.Placing.{earlier}
+use Rattle.ts_sheets.specs.Range.{is_within, within_range, without_range}
+use Rattle.ts_sheets.proofs.OrderLemmas.{all_in-append, later_front, pages_in_order, sized_pages, sized_front, sized_back, sized_both, pages_made}
+use Rattle.ts_sheets.proofs.DenseLemmas.{dense_front, dense_back, dense_cons, dense_made}
 use Rattle.ts_chain.proofs.EditLemmas.{all_between}
 use Rattle.ts_chain.proofs.PlaceLemmas.{chain_later, chained_both}
 use Rattle.ts_chain.proofs.RemoveLemmas.{count_parts}

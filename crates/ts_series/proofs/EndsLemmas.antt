@@ -9,10 +9,10 @@ use Rattle.ts_row.specs.Element.{Element}
 use Rattle.ts_cells.specs.IrregularPage.{AreElements, behind_head, irregular_page, first_stamp}
 use Rattle.ts_cells.proofs.HeadLemmas.{irregular_behind}
 use Rattle.ts_irregular.specs.OnePage.{IsOn}
-use Rattle.ts_chain.specs.Chain.{all_in, ArePages}
-use Rattle.ts_chain.specs.Places.{AreChained}
-use Rattle.ts_chain.specs.Placing.{earlier}
-use Rattle.ts_chain.proofs.OrderLemmas.{all_in-append, earlier_than}
+use Rattle.ts_sheets.specs.Chain.{all_in, ArePages}
+use Rattle.ts_sheets.specs.Places.{AreChained}
+use Rattle.ts_sheets.specs.Placing.{earlier}
+use Rattle.ts_sheets.proofs.OrderLemmas.{all_in-append, earlier_than}
 use Rattle.ts_chain.proofs.PlaceLemmas.{Cut, cut, chain_earlier, chain_later}
 use Rattle.ts_chain.proofs.RemoveLemmas.{count_parts}
 use Rattle.ts_series.specs.Ends.{later, EndsAt, OthersAreAbove, HasElements, AreEnds, AreEndsOf, last_count}

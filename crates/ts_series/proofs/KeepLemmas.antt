@@ -8,7 +8,7 @@ use Rattle.ts_space.specs.Place.{IsRising, pages_of}
 use Rattle.ts_page.specs.Pages.{Contents, EqualPages}
 use Rattle.ts_row.specs.declared.kind.Column.{Column}
 use Rattle.ts_irregular.specs.OnePage.{IsOn, IsPlace}
-use Rattle.ts_chain.specs.Places.{AreChained, ArePlaces}
+use Rattle.ts_sheets.specs.Places.{AreChained, ArePlaces}
 use Rattle.ts_chain.proofs.RestLemmas.{places_same}
 use Rattle.ts_series.specs.declared.joins.Joins.{Joins}
 use Rattle.ts_row.specs.Element.{Element}

@@ -14,10 +14,10 @@ use Rattle.ts_row.specs.Element.{Element}
 use Rattle.ts_cells.specs.Cell.{page_room}
 use Rattle.ts_cells.specs.IrregularPage.{AreElements, AreInOrder, irregular_page, first_stamp}
 use Rattle.ts_irregular.specs.OnePage.{IsOn, IsPlace, place_of}
-use Rattle.ts_chain.specs.Places.{ArePlaces, CanBeFreed, IsBeginning, IsCounted}
+use Rattle.ts_sheets.specs.Places.{ArePlaces, CanBeFreed, IsBeginning, IsCounted}
 use Rattle.ts_chain.specs.Call.{AreFreed}
 use Rattle.ts_chain.proofs.ChangeLemmas.{place_first}
-use Rattle.ts_chain.proofs.OrderLemmas.{elements_front, elements_back, rising_front, rising_back}
+use Rattle.ts_sheets.proofs.OrderLemmas.{elements_front, elements_back, rising_front, rising_back}
 use Rattle.ts_chain.proofs.PagesLemmas.{changed_page, other_page}
 use Rattle.ts_series.specs.Ends.{AreUsed, AreKept, HasElements, BeginsWithin, BeginTogether, BeginApart}
 

@@ -3,7 +3,7 @@ use Rattle.std.proofs.Common.{◌≡◌, ℕ, suc, ◌+◌, ◌≤◌, ℤ, ◌<
 use Rattle.std.proofs.lemmas.Int.{ints}
 use Rattle.ts_space.specs.declared.place.Place.{Place}
 use Rattle.ts_space.specs.Place.{AreAbove, IsRising}
-use Rattle.ts_chain.specs.Places.{IsHolder, IsBeginning}
+use Rattle.ts_sheets.specs.Places.{IsHolder, IsBeginning}
 use Rattle.ts_chain.proofs.PlaceLemmas.{above_than}
 use Rattle.ts_series.specs.Ends.{BeginsAt, EndsAt, OthersAreAbove, IsRange}
 

@@ -14,12 +14,12 @@ use Rattle.ts_row.specs.declared.kind.Column.{Column}
 use Rattle.ts_row.specs.Element.{Element}
 use Rattle.ts_cells.specs.Cell.{page_room}
 use Rattle.ts_cells.specs.IrregularPage.{AreElements, AreRising, AreInOrder}
-use Rattle.ts_chain.specs.Chain.{all_in, AreBefore, AreLater, ArePages, IsChain}
-use Rattle.ts_chain.specs.Places.{AreChained, ArePlaces, AreMoved, IsCounted}
-use Rattle.ts_chain.specs.Placing.{earlier}
-use Rattle.ts_chain.specs.Range.{within_range, without_range}
+use Rattle.ts_sheets.specs.Chain.{all_in, AreBefore, AreLater, ArePages, IsChain}
+use Rattle.ts_sheets.specs.Places.{AreChained, ArePlaces, AreMoved, IsCounted}
+use Rattle.ts_sheets.specs.Placing.{earlier}
+use Rattle.ts_sheets.specs.Range.{within_range, without_range}
 use Rattle.ts_chain.specs.Call.{AreWritten}
-use Rattle.ts_chain.proofs.OrderLemmas.{all_in-append, pages_in_order}
+use Rattle.ts_sheets.proofs.OrderLemmas.{all_in-append, pages_in_order}
 use Rattle.ts_irregular.proofs.EditLemmas.{int_lt_yes, int_lt_no}
 use Rattle.ts_chain.proofs.PlaceLemmas.{chain_later}
 use Rattle.ts_chain.proofs.RemoveLemmas.{count_parts, count_both, pages_from}

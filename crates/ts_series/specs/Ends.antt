@@ -10,9 +10,9 @@ use Rattle.ts_page.specs.Pages.{Contents}
 use Rattle.ts_row.specs.declared.kind.Column.{Column}
 use Rattle.ts_row.specs.Element.{Element}
 use Rattle.ts_cells.specs.IrregularPage.{irregular_page, first_stamp}
-use Rattle.ts_chain.specs.Chain.{all_in, ArePages}
-use Rattle.ts_chain.specs.Places.{CanBeFreed, AreChained, IsCounted}
-use Rattle.ts_chain.specs.Placing.{earlier}
+use Rattle.ts_sheets.specs.Chain.{all_in, ArePages}
+use Rattle.ts_sheets.specs.Places.{CanBeFreed, AreChained, IsCounted}
+use Rattle.ts_sheets.specs.Placing.{earlier}
 use Rattle.ts_series.specs.declared.joins.Joins.{Joins}
 
 -- the elements that are later than a stamp

@@ -4,7 +4,7 @@ ghost use Rattle.std.specs.Prelude.{min, ◌-◌, ◌^◌};
 ghost use Rattle.ts_space.specs.Place.{IsRising, count_of};
 ghost use Rattle.ts_space.specs.Directory.{places_of};
 ghost use Rattle.ts_page.specs.Pages.{Answered};
-ghost use Rattle.ts_chain.specs.Places.{ArePlaces, IsHolder};
+ghost use Rattle.ts_sheets.specs.Places.{ArePlaces, IsHolder};
 ghost use Rattle.ts_series.specs.Clip.{IsCleared};
 ghost use Rattle.ts_series.specs.Ends.{IsRange, first_count, last_count};
 

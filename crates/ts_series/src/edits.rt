@@ -4,7 +4,7 @@ ghost use Rattle.ts_row.specs.Row.{fits};
 ghost use Rattle.ts_space.specs.Place.{count_of};
 ghost use Rattle.ts_space.specs.Directory.{places_of};
 ghost use Rattle.ts_page.specs.Pages.{Answered};
-ghost use Rattle.ts_chain.specs.Places.{ArePlaces};
+ghost use Rattle.ts_sheets.specs.Places.{ArePlaces};
 ghost use Rattle.ts_series.specs.declared.edits.EditKind.TheVariants.{Put, PutNoDups, Insert, Update};
 ghost use Rattle.ts_series.specs.Edit.{IsEdited, IsDone, GrowsWithin, charge_with_one};
 

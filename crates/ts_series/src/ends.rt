@@ -6,8 +6,8 @@ ghost use Rattle.ts_cells.specs.Cell.{page_room};
 ghost use Rattle.ts_cells.specs.IrregularPage.{AreInOrder, behind_head};
 ghost use Rattle.ts_irregular.specs.OnePage.{IsOn};
 ghost use Rattle.ts_irregular.specs.Call.{Reads};
-ghost use Rattle.ts_chain.specs.Placing.{earlier};
-ghost use Rattle.ts_chain.specs.Places.{CanBeRead};
+ghost use Rattle.ts_sheets.specs.Placing.{earlier};
+ghost use Rattle.ts_sheets.specs.Places.{CanBeRead};
 ghost use Rattle.ts_series.specs.Ends.{later, EndsAt, OthersAreAbove, HasElements, AreEnds, AreEndsOf};
 ghost use Rattle.std.specs.Prelude.{All};
 

@@ -7,8 +7,8 @@ ghost use Rattle.ts_row.specs.Element.{Element};
 ghost use Rattle.ts_cells.specs.Cell.{page_room};
 ghost use Rattle.ts_cells.specs.IrregularPage.{AreInOrder, AreElements};
 ghost use Rattle.ts_irregular.specs.Call.{Reads};
-ghost use Rattle.ts_chain.specs.Chain.{all_in};
-ghost use Rattle.ts_chain.specs.Places.{AreChained, ArePlaces};
+ghost use Rattle.ts_sheets.specs.Chain.{all_in};
+ghost use Rattle.ts_sheets.specs.Places.{AreChained, ArePlaces};
 ghost use Rattle.ts_series.specs.Ends.{HasElements, AreParts, AreKept, pieces, HasShape, CanBegin};
 
 use crate::ends::Left;

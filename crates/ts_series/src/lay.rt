@@ -8,7 +8,7 @@ ghost use Rattle.ts_page.specs.Pages.{Answered};
 ghost use Rattle.ts_row.specs.Element.{Element};
 ghost use Rattle.ts_cells.specs.Cell.{page_room};
 ghost use Rattle.ts_cells.specs.IrregularPage.{AreInOrder};
-ghost use Rattle.ts_chain.specs.Places.{AreChained, ArePlaces, IsBeginning};
+ghost use Rattle.ts_sheets.specs.Places.{AreChained, ArePlaces, IsBeginning};
 ghost use Rattle.ts_series.specs.Ends.{HasElements, AreUsed, AreKept, pieces, HasShape, BeginApart, BeginTogether};
 ghost use Rattle.ts_series.specs.Ends.{CanBegin};
 

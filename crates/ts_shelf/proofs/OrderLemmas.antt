@@ -5,7 +5,7 @@ use Rattle.ts_row.specs.Element.{Element}
 use Rattle.ts_space.specs.declared.place.Place.{Place}
 use Rattle.ts_space.specs.Place.{IsRising}
 use Rattle.ts_cells.specs.IrregularPage.{AreRising}
-use Rattle.ts_chain.proofs.OrderLemmas.{pages_in_order}
+use Rattle.ts_sheets.proofs.OrderLemmas.{pages_in_order}
 use Rattle.ts_regular.specs.Places.{all_in as all_at}
 use Rattle.ts_regular.proofs.PlaceLemmas.{pages_rise}
 use Rattle.ts_offset.specs.declared.shape.Shape.{Shape}

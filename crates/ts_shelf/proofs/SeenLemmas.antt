@@ -11,9 +11,9 @@ use Rattle.ts_space.specs.declared.place.Place.{Place}
 use Rattle.ts_space.specs.Directory.{Directory, places_of}
 use Rattle.ts_cells.specs.IrregularPage.{AreRising}
 use Rattle.ts_irregular.specs.Call.{Reads}
-use Rattle.ts_chain.specs.Chain.{all_in}
+use Rattle.ts_sheets.specs.Chain.{all_in}
 use Rattle.ts_regular.specs.Places.{all_in as all_at}
-use Rattle.ts_regular_edits.specs.Stamped.{stamped}
+use Rattle.ts_sheets.specs.Stamped.{stamped}
 use Rattle.ts_offset.specs.declared.shape.Shape.{Shape}
 use Rattle.ts_offset.specs.declared.shape.Shape.TheVariants.{Irregular, Regular}
 use Rattle.ts_clip.specs.Series.{HaveElements, IsLaidOut}

@@ -9,8 +9,8 @@ use Rattle.ts_calendar.specs.Intervals.{IsLaid}
 use Rattle.ts_offset.specs.Grid.{GridPlan, stamp_of}
 use Rattle.ts_regular.specs.Offsets as offsets
 use Rattle.ts_regular.specs.Offsets.{OffsetElement}
-use Rattle.ts_regular_edits.specs.Stamped.{stamped, HaveStarts}
-use Rattle.ts_regular_edits.proofs.StartLemmas.{stamps_rise}
+use Rattle.ts_sheets.specs.Stamped.{stamped, HaveStarts}
+use Rattle.ts_sheets.proofs.StartLemmas.{stamps_rise}
 
 abbrev pub HasStart : GridPlan → OffsetElement → Type 0
 HasStart grid e = IsSome (stamp_of grid e.0)

@@ -11,8 +11,8 @@ use Rattle.ts_row.specs.declared.kind.Column.{Column}
 use Rattle.ts_row.specs.Element.{Element}
 use Rattle.ts_cells.specs.Cell.{page_room}
 use Rattle.ts_cells.specs.IrregularPage.{first_stamp, last_stamp}
-use Rattle.ts_chain.specs.Chain.{all_in, AreLater, AreBefore, ArePages, IsDense, IsChain}
-use Rattle.ts_chain.proofs.OrderLemmas.{later_back}
+use Rattle.ts_sheets.specs.Chain.{all_in, AreLater, AreBefore, ArePages, IsDense, IsChain}
+use Rattle.ts_sheets.proofs.OrderLemmas.{later_back}
 use Rattle.ts_offset.specs.Grid.{GridPlan}
 use Rattle.ts_offset.specs.declared.shape.Shape.{Shape}
 use Rattle.ts_offset.specs.declared.shape.Shape.TheVariants.{Irregular, Regular}

@@ -2,7 +2,7 @@ use Rattle.std.proofs.Common.{◌≡◌, ◌≤◌, ℤ, List, [], length, map, 
 use Rattle.std.proofs.lemmas.List.{length-map}
 use Rattle.ts_row.specs.Row.{Row}
 use Rattle.ts_row.specs.Element.{Element}
-use Rattle.ts_chain.specs.Range.{is_within, within_range}
+use Rattle.ts_sheets.specs.Range.{is_within, within_range}
 use Rattle.ts_expr.specs.Binding.{Binding}
 use Rattle.ts_expr.specs.Fold.{folded_row}
 use Rattle.ts_aggregate.specs.Fold.{most_folded}

@@ -3,7 +3,7 @@ use Rattle.ts_space.specs.declared.place.Place.{Place}
 use Rattle.ts_space.specs.Place.{AreAbove}
 use Rattle.ts_irregular.proofs.HeadLemmas.{part_behind, length-page}
 use Rattle.ts_irregular.proofs.FindLemmas.{row_there}
-use Rattle.ts_chain.specs.Places.{IsHolder, CanBeRead}
+use Rattle.ts_sheets.specs.Places.{IsHolder, CanBeRead}
 use Rattle.ts_chain.specs.Call.{IsRowIn}
 use Rattle.ts_chain.proofs.FindLemmas.{none_in, row_in, holder_get, holder_within}
 use Rattle.ts_chain.proofs.find.chain_find.Goals as goal

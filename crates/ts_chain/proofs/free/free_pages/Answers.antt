@@ -2,7 +2,7 @@ use Rattle.std.proofs.Common.{ℕ, List, length, refl, sym, subst}
 use Rattle.std.specs.Prelude.{IsPermutation}
 use Rattle.std.proofs.lemmas.List.Sorted.{All-permutation}
 use Rattle.ts_space.specs.Place.{pages_of}
-use Rattle.ts_chain.specs.Places.{CanBeFreed}
+use Rattle.ts_sheets.specs.Places.{CanBeFreed}
 use Rattle.ts_chain.proofs.FreeLemmas.{pairs_moved, freed_places, on_ok}
 use Rattle.ts_chain.proofs.free.free_pages.Goals as goal
 

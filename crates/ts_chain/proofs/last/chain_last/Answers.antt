@@ -2,7 +2,7 @@ use Rattle.std.proofs.Common.{◌-◌, Ok, List, [], ◌∷◌, sym, subst, arit
 use Rattle.ts_space.specs.declared.place.Place.{Place}
 use Rattle.ts_row.specs.declared.kind.Column.{Column}
 use Rattle.ts_irregular.specs.Call.{IsLast}
-use Rattle.ts_chain.specs.Places.{AreChained}
+use Rattle.ts_sheets.specs.Places.{AreChained}
 use Rattle.ts_page.proofs.ReadsLemmas.{reads_none, reads_more, reads_ok}
 use Rattle.ts_chain.proofs.LastLemmas.{among_all, among_before, last_here}
 use Rattle.ts_chain.proofs.last.chain_last.Goals as goal

@@ -1,4 +1,4 @@
-use Rattle.ts_chain.proofs.OrderLemmas.{pages_in_order}
+use Rattle.ts_sheets.proofs.OrderLemmas.{pages_in_order}
 use Rattle.ts_chain.proofs.laws.a_chain_is_in_order.Goals as goal
 
 pub returns : goal.returns

@@ -6,7 +6,7 @@ use Rattle.ts_cells.specs.Cell.{page_room}
 use Rattle.ts_cells.specs.IrregularPage.{irregular_page}
 use Rattle.ts_cells.proofs.HeadLemmas.{irregular_behind}
 use Rattle.ts_irregular.specs.Edit.{with_element}
-use Rattle.ts_chain.proofs.OrderLemmas.{order_first, order_others}
+use Rattle.ts_sheets.proofs.OrderLemmas.{order_first, order_others}
 use Rattle.ts_chain.proofs.SplitLemmas.{first_search, others_search, first_half, others_half}
 use Rattle.ts_chain.proofs.page.halve.Goals as goal
 

@@ -2,7 +2,7 @@ use Rattle.std.proofs.Common.{◌<◌, All, Some, Ok, List, length, sym, subst, 
 use Rattle.ts_space.specs.declared.place.Place.{Place}
 use Rattle.ts_space.specs.Place.{AreAbove}
 use Rattle.ts_row.specs.declared.kind.Column.{Column}
-use Rattle.ts_chain.specs.Places.{IsHolder, CanBeRead}
+use Rattle.ts_sheets.specs.Places.{IsHolder, CanBeRead}
 use Rattle.ts_chain.specs.Call.{IsPlaceIn}
 use Rattle.ts_chain.proofs.FindLemmas.{holder_get, holder_within}
 use Rattle.ts_chain.proofs.BehindLemmas.{place_before, no_holder, counted_since, place_free, place_behind}

@@ -2,7 +2,7 @@ use Rattle.std.proofs.Common.{List, sym, subst}
 use Rattle.ts_space.specs.declared.place.Place.{Place}
 use Rattle.ts_row.specs.declared.kind.Column.{Column}
 use Rattle.ts_offset.specs.declared.shape.Shape.{Shape}
-use Rattle.ts_chain.specs.Places as chain
+use Rattle.ts_sheets.specs.Places as chain
 use Rattle.ts_chain.proofs.MovedLemmas.{places_readable}
 use Rattle.ts_regular.specs.Places as regular
 use Rattle.ts_clip.specs.Series.{ArePlaces}

@@ -5,7 +5,7 @@ use Rattle.std.proofs.lemmas.Result.{IfOk-weaker}
 use Rattle.ts_space.specs.Directory.{places_of}
 use Rattle.ts_row.specs.declared.kind.Column.{Column}
 use Rattle.ts_row.specs.Element.{seen}
-use Rattle.ts_chain.specs.Range.{within_range}
+use Rattle.ts_sheets.specs.Range.{within_range}
 use Rattle.ts_entry.specs.Entry.{Entry, filled, AreTaken}
 use Rattle.ts_entry.specs.Reading.{last_ones}
 use Rattle.ts_clip.specs.Chain.{first_moment}

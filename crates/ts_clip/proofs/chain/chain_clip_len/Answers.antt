@@ -3,7 +3,7 @@ use Rattle.std.proofs.lemmas.List.{length-map}
 use Rattle.std.proofs.lemmas.Result.{IfOk-weaker}
 use Rattle.ts_row.specs.Element.{seen}
 use Rattle.ts_space.specs.Directory.{places_of}
-use Rattle.ts_chain.specs.Range.{within_range}
+use Rattle.ts_sheets.specs.Range.{within_range}
 use Rattle.ts_entry.specs.Entry.{filled}
 use Rattle.ts_clip.proofs.ChainReadingLemmas.{clipped_filled}
 use Rattle.ts_clip.proofs.ChainShownLemmas.{ends_told}

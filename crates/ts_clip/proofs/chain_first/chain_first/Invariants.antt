@@ -2,7 +2,7 @@
 use Rattle.std.proofs.Common.{◌≡◌, Ok, List, [], take}
 use Rattle.ts_row.specs.Element.{Element, seen}
 use Rattle.ts_irregular.specs.Call.{Reads}
-use Rattle.ts_chain.specs.Chain.{all_in}
+use Rattle.ts_sheets.specs.Chain.{all_in}
 use Rattle.ts_clip.specs.Chain.{HoldsOfPages}
 use Rattle.ts_clip.proofs.chain_first.chain_first.Given as goal
 

@@ -2,8 +2,8 @@
 use Rattle.std.proofs.Common.{◌≡◌, ◌-◌, ◌^◌, min, Ok, List, length, take}
 use Rattle.ts_row.specs.Element.{Element, seen}
 use Rattle.ts_irregular.specs.Call.{Reads}
-use Rattle.ts_chain.specs.Chain.{all_in}
-use Rattle.ts_chain.specs.Range.{within_range}
+use Rattle.ts_sheets.specs.Chain.{all_in}
+use Rattle.ts_sheets.specs.Range.{within_range}
 use Rattle.ts_clip.specs.Chain.{HoldsOfPages}
 use Rattle.ts_clip.proofs.chain_pages.count_pages.Given as goal
 

@@ -2,7 +2,7 @@ use Rattle.std.proofs.Common.{◌≡◌, List, [], ◌∷◌, ◌++◌, ap, subs
 use Rattle.std.proofs.lemmas.Result.{IfOk-weaker}
 use Rattle.ts_space.specs.declared.place.Place.{Place}
 use Rattle.ts_row.specs.declared.kind.Column.{Column}
-use Rattle.ts_chain.specs.Places.{AreChained, CanBeRead}
+use Rattle.ts_sheets.specs.Places.{AreChained, CanBeRead}
 use Rattle.ts_clip.specs.Chain.{AreBounded}
 use Rattle.ts_clip.proofs.ChainShownLemmas.{all_counted, both_ends, ends_counted, two_ends}
 use Rattle.ts_clip.proofs.chain_shown.count_ends.Goals as goal

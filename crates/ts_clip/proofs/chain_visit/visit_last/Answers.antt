@@ -4,8 +4,8 @@ use Rattle.ts_space.specs.declared.place.Place.{Place}
 use Rattle.ts_space.specs.Directory.{places_of}
 use Rattle.ts_row.specs.declared.kind.Column.{Column}
 use Rattle.ts_row.specs.Element.{Element, seen}
-use Rattle.ts_chain.specs.Places.{AreChained}
-use Rattle.ts_chain.specs.Range.{within_range}
+use Rattle.ts_sheets.specs.Places.{AreChained}
+use Rattle.ts_sheets.specs.Range.{within_range}
 use Rattle.ts_series.proofs.KeepLemmas.{chained_since}
 use Rattle.ts_entry.specs.Entry.{Entry, filled, AreTaken}
 use Rattle.ts_entry.specs.Reading.{last_ones}

@@ -2,7 +2,7 @@ use Rattle.std.proofs.Common.{sym, ap, ◌∙◌}
 use Rattle.std.specs.Option.{option_and_then}
 use Rattle.ts_irregular.specs.Edit.{last_seen}
 use Rattle.ts_regular.specs.Places.{all_in}
-use Rattle.ts_regular_edits.specs.Stamped.{stamped_one}
+use Rattle.ts_sheets.specs.Stamped.{stamped_one}
 use Rattle.ts_clip.proofs.GridReadingLemmas.{last_seen_stamped}
 use Rattle.ts_clip.proofs.grid_ends.grid_last.Goals as goal
 

@@ -5,7 +5,7 @@ use Rattle.ts_row.specs.declared.kind.Column.{Column}
 use Rattle.ts_regular.specs.Offsets.{seen}
 use Rattle.ts_regular.specs.Places.{OffsetPage, IsOn, all_in}
 use Rattle.ts_regular.specs.Range.{within}
-use Rattle.ts_regular_edits.specs.Stamped.{stamped}
+use Rattle.ts_sheets.specs.Stamped.{stamped}
 use Rattle.ts_page.proofs.ReadsLemmas.{reads_more}
 use Rattle.ts_entry.specs.Entry.{Entry}
 use Rattle.ts_clip.specs.Grid.{HaveTaken}

@@ -4,7 +4,7 @@ use Rattle.ts_irregular.specs.Call.{Reads}
 use Rattle.ts_regular.specs.Offsets.{seen}
 use Rattle.ts_regular.specs.Places.{all_in}
 use Rattle.ts_regular.specs.Range.{within}
-use Rattle.ts_regular_edits.specs.Stamped.{stamped}
+use Rattle.ts_sheets.specs.Stamped.{stamped}
 use Rattle.ts_entry.specs.Entry.{Entry}
 use Rattle.ts_clip.specs.Grid.{HaveTaken, HoldsOfCellPages}
 use Rattle.ts_clip.proofs.grid_range.elements_on_places.Given as goal

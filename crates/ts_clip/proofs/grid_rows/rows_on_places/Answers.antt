@@ -8,7 +8,7 @@ use Rattle.ts_regular.specs.Places.{OffsetPage, IsOn, all_in}
 use Rattle.ts_page.proofs.ReadsLemmas.{reads_more}
 use Rattle.ts_clip.proofs.GridPlaceLemmas.{page_of, pages_count}
 use Rattle.ts_regular.specs.Range.{within}
-use Rattle.ts_regular_edits.specs.Stamped.{stamped}
+use Rattle.ts_sheets.specs.Stamped.{stamped}
 use Rattle.ts_offset.specs.Grid.{GridPlan}
 use Rattle.ts_clip.proofs.GridRowLemmas.{stamped_next, page_starts}
 use Rattle.ts_clip.proofs.grid_rows.rows_on_places.Goals as goal

@@ -4,7 +4,7 @@ use Rattle.ts_irregular.specs.Call.{Reads}
 use Rattle.ts_regular.specs.Places.{all_in}
 use Rattle.ts_calendar.specs.Intervals.{IsLaid}
 use Rattle.ts_regular.specs.Range.{within}
-use Rattle.ts_regular_edits.specs.Stamped.{stamped, HaveStarts}
+use Rattle.ts_sheets.specs.Stamped.{stamped, HaveStarts}
 use Rattle.ts_clip.specs.Grid.{HoldsOfCellPages}
 use Rattle.ts_clip.proofs.grid_rows.rows_on_places.Given as goal
 

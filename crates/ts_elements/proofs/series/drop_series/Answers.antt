@@ -1,7 +1,7 @@
 use Rattle.std.proofs.Common.{◌≢◌, All, AllPairs, List, length, ap, sym, subst, ◌∙◌, arith}
 use Rattle.ts_space.specs.declared.place.Place.{Place}
 use Rattle.ts_space.specs.Place.{pages_of}
-use Rattle.ts_chain.specs.Places.{CanBeFreed}
+use Rattle.ts_sheets.specs.Places.{CanBeFreed}
 use Rattle.ts_chain.specs.Call.{AreFreed}
 use Rattle.ts_command.specs.declared.command.Command.TheVariants.{DropSeries}
 use Rattle.ts_answer.specs.Answer.{outcome, carried_out, drop_series}

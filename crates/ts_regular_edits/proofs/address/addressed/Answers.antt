@@ -1,5 +1,5 @@
 use Rattle.std.proofs.Common.{sym, ◌∙◌}
-use Rattle.ts_regular_edits.proofs.StartLemmas.{few_starts}
+use Rattle.ts_sheets.proofs.StartLemmas.{few_starts}
 use Rattle.ts_regular_edits.proofs.address.addressed.Goals as goal
 
 -- the offset of a start is among the on starts, and these are few

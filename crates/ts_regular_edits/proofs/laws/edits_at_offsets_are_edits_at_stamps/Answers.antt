@@ -1,4 +1,4 @@
-use Rattle.ts_regular_edits.proofs.StartLemmas.{stamps_rise}
+use Rattle.ts_sheets.proofs.StartLemmas.{stamps_rise}
 use Rattle.ts_regular_edits.proofs.StampLemmas.{found_stamped, put_stamped, taken_stamped}
 use Rattle.ts_regular_edits.proofs.laws.edits_at_offsets_are_edits_at_stamps.Goals as goal
 

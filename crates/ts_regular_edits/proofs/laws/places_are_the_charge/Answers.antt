@@ -1,4 +1,4 @@
-use Rattle.ts_regular_edits.proofs.ChargeLemmas.{charged, charged_with}
+use Rattle.ts_sheets.proofs.ChargeLemmas.{charged, charged_with}
 use Rattle.ts_regular_edits.proofs.laws.places_are_the_charge.Goals as goal
 
 pub returns-clause-charge : goal.returns-clause-charge

@@ -3,8 +3,8 @@ use Rattle.ts_space.specs.declared.place.Place.{Place}
 use Rattle.ts_space.specs.Place.{count_of}
 use Rattle.ts_space.specs.Moved.{list_of}
 use Rattle.ts_cells.specs.Cell.{page_room}
-use Rattle.ts_chain.specs.Chain.{all_in}
-use Rattle.ts_chain.specs.Places.{AreChained}
+use Rattle.ts_sheets.specs.Chain.{all_in}
+use Rattle.ts_sheets.specs.Places.{AreChained}
 use Rattle.ts_series.proofs.LayLemmas.{order_front, order_back}
 use Rattle.ts_series.proofs.KeepLemmas.{gone, before_slice, behind_slice, slices_rising, kept_slices, begin_slices, two_slices, part_since, kept_since, chained_since}
 use Rattle.ts_series.proofs.keep.keep.Goals as goal

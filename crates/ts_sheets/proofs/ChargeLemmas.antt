@@ -19,7 +19,7 @@ use Rattle.ts_regular.specs.Places.{OffsetPage, IsOn, AreOn, all_in}
 use Rattle.ts_regular.proofs.OffsetLemmas.{AreMore, eq_yes, eq_no, with_above, with_below, with_same}
 use Rattle.ts_regular.proofs.CellsLemmas.{count_in, count_within}
 use Rattle.ts_regular.proofs.PlaceLemmas.{pages_more}
-use Rattle.ts_regular_edits.specs.Charge.{charge_of, pages_with}
+use Rattle.ts_sheets.specs.Charge.{charge_of, pages_with}
 
 -- the numbers of the pages of r offsets each that elements belong to
 abbrev pages_hit : ℕ → List OffsetElement → List ℕ

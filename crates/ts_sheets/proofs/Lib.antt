@@ -1,0 +1,4 @@
+pub mod OrderLemmas
+pub mod DenseLemmas
+pub mod StartLemmas
+pub mod ChargeLemmas
