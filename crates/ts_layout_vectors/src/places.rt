@@ -14,6 +14,7 @@ use ts_layout::{
     the_same_lists_are_kept,
 };
 use ts_model::Kind;
+use ts_sheets::{chains_are_in_order, chains_have_few_pages, grids_have_few_pages, starts_rise};
 
 /// A slot of a kind, its page, and its first byte there.
 static SLOTS: [(Kind, u16, u32, usize); 8] = [
@@ -45,6 +46,14 @@ fn the_last_page_of_series_has_11_slots(rt: HostRuntime) {
     let last = slots_in_page(929);
     assert!(rt; last.first == 4085 && last.count == 11);
     assert!(rt; slots_in_page(832).count == 1 && slots_in_page(833).count == 64);
+}
+
+#[test]
+fn the_laws_of_sheets_are_called() {
+    chains_are_in_order();
+    chains_have_few_pages();
+    grids_have_few_pages();
+    starts_rise();
 }
 
 #[test]

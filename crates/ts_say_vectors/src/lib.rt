@@ -1,6 +1,6 @@
-//! Lines of replies, worked out by hand, and the laws of answers, called. There are only tests: they stand apart,
-//! since a crate that has tests of its own is proved twice. Stands on ts_say, ts_answer and ts_answer_laws, which
-//! it tests. Read `lines.rt`, then the others in any order.
+//! Lines of replies, worked out by hand, and the laws of answers, called; the marks of hidden elements. There are only
+//! tests: they stand apart, since a crate that has tests of its own is proved twice. Stands on ts_say, ts_answer,
+//! ts_answer_laws and ts_hidden, which it tests. Read `lines.rt`, then the others in any order.
 #![tactic(auto)]
 
 #[cfg(test)]
@@ -9,5 +9,7 @@ mod answers;
 mod folds;
 #[cfg(test)]
 mod lines;
+#[cfg(test)]
+mod marks;
 #[cfg(test)]
 mod rows;
