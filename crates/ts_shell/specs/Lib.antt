@@ -1,8 +1,5 @@
 pub mod Words
 pub mod Making
-pub mod Run
 pub mod Top
 pub mod Migrating
-pub mod Generated
-pub mod Generating
 pub mod Checking

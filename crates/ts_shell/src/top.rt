@@ -1,29 +1,24 @@
 // The top call: what the program does, by its words.
-ghost use Rattle.std.specs.Prelude.{◌≡◌, ◌≢◌, ◌≤◌, ◌↔◌, ℕ, None, Some, IfOk, length, map, string_bytes};
-ghost use Rattle.ts_items.specs.Reader.{start};
+ghost use Rattle.std.specs.Prelude.{◌≡◌, ◌≢◌, ◌≤◌, ◌↔◌, ℕ, None, Some, map, string_bytes};
 ghost use Rattle.ts_shell.specs.Words.{job_of};
 ghost use Rattle.ts_shell.specs.Checking.{CheckRan};
 ghost use Rattle.ts_shell.specs.Migrating.{MigrateRan};
-ghost use Rattle.ts_shell.specs.Generating.{GenRan};
-ghost use Rattle.ts_shell.specs.Top.{Made, Untouched, ScriptRan};
+ghost use Rattle.ts_generator.specs.Generating.{GenRan};
+ghost use Rattle.ts_shell.specs.Top.{Made, Untouched};
+ghost use Rattle.ts_script_runs.specs.Script.{ScriptRan};
 ghost use Rattle.ts_shell.specs.declared.words.Job.TheVariants.{Init, Run, Check, Migrate, Gen};
 ghost use Rattle.ts_shell.specs.declared.words.Job.TheVariants.{Sessions};
 ghost use Rattle.ts_session_source.specs.Sessions.{SessionsRan};
 
 use crate::check::check;
-use crate::generate::generate;
 use crate::make::make;
 use crate::migrate::migrate;
-use crate::run::run_script;
-use crate::session::Session;
 use crate::words::{Job, read_job};
-use std::alloc::{AllocError, Global};
+use std::alloc::Global;
 use std::thread::Threads;
-use ts_base::Reply;
-use ts_command::Reader;
 use ts_disk::{Site, Source};
-use ts_engine::Engine;
-use ts_opening::{PIECE, unopened};
+use ts_generator::generate;
+use ts_script_runs::carry_out_script;
 use ts_session_source::carry_out_sessions;
 
 /// Does what the words ask for, and answers with the program's status.
@@ -88,7 +83,7 @@ pub fn run_ts<S: Site, R: Source>(
     match read_job(words) {
         None => 2,
         Some(Job::Init(pages)) => init(site, pages),
-        Some(Job::Run) => run(rt, alloc, site, source),
+        Some(Job::Run) => carry_out_script(rt, alloc, site, source),
         Some(Job::Check) => check(rt, alloc, site),
         Some(Job::Migrate) => migrate(alloc, site),
         Some(Job::Gen { count, seed }) => generate(rt, alloc, site, count, seed),
@@ -109,78 +104,4 @@ fn init<S: Site>(site: &mut S, pages: u32) -> u8
         Ok(()) => 0,
         Err(_) => 5,
     }
-}
-
-// Carries out the script of the source.
-fn run<S: Site, R: Source>(
-    rt: &(impl Threads + Sync),
-    alloc: Global,
-    site: &mut S,
-    source: &mut R,
-) -> u8
-    ensures ran { ScriptRan S.tells R.tells result (S.device site.old) (S.device site.new) (R.input source.old)
-        (R.input source.new) }
-{
-    match Buffers::new(alloc) {
-        Ok(buffers) => run_with(rt, alloc, site, source, buffers),
-        Err(_) => 7,
-    }
-}
-
-// Opens the volume and carries out the script.
-fn run_with<S: Site, R: Source>(
-    rt: &(impl Threads + Sync),
-    alloc: Global,
-    site: &mut S,
-    source: &mut R,
-    buffers: Buffers,
-) -> u8
-    requires start { buffers.reader ≡ start }
-    ensures ran { ScriptRan S.tells R.tells result (S.device site.old) (S.device site.new) (R.input source.old)
-        (R.input source.new) }
-{
-    let Buffers {
-        reader,
-        reply,
-        mut piece,
-    } = buffers;
-    match Engine::start(alloc, site) {
-        Err(fault) => unopened(&fault),
-        Ok(engine) => {
-            let mut session = Session {
-                engine,
-                reader,
-                reply,
-                alloc,
-            };
-            run_script(rt, &mut session, site, source, &mut piece)
-        }
-    }
-}
-
-/// What reading takes, before anything is done.
-#[derive(Drop)]
-struct Buffers {
-    reader: Reader,
-    reply: Reply,
-    piece: Vec<u8>,
-    ghost whole: { length piece.items ≡ 65536 },
-}
-
-impl Buffers {
-    fn new(alloc: Global) -> Result<Buffers, AllocError>
-        ensures start { IfOk result (λ b. b.reader ≡ start) }
-    {
-        Ok(Buffers {
-            reader: Reader::new(alloc)?,
-            reply: Reply::new(alloc),
-            piece: zeros(alloc, PIECE)?,
-        })
-    }
-}
-
-fn zeros(alloc: Global, count: usize) -> Result<Vec<u8>, AllocError>
-    ensures { IfOk result (λ v. length v.items ≡ count) }
-{
-    vec![in alloc; 0u8; count]
 }

@@ -5,7 +5,7 @@ use Rattle.ts_shell.specs.declared.words.Job.{Job}
 use Rattle.ts_shell.specs.declared.words.Job.TheVariants.{Init, Run, Check, Migrate, Gen, Sessions}
 use Rattle.ts_shell.specs.Words.{IsJob}
 use Rattle.ts_shell.specs.Top.{Made}
-use Rattle.ts_shell.specs.Generating.{GenRan}
+use Rattle.ts_generator.specs.Generating.{GenRan}
 use Rattle.ts_session_source.specs.Sessions.{IsUnbegun, SessionsRan}
 use Rattle.ts_shell.proofs.TopLemmas.{untouched_now}
 use Rattle.ts_shell.proofs.top.run_ts.Goals as goal
@@ -161,10 +161,10 @@ returns-in-Some-Init-clause-sessions g c = λ seed e.
 pub returns-in-Some-Run-clause-usage : goal.returns-in-Some-Run-clause-usage
 returns-in-Some-Run-clause-usage g c =
     let is : ◌≡◌ {A = Option Job} c.read_job.result (Some Run) = c.in-Some-Run.is ∙ ap Some c.in-Some-Run.field-0-is in
-    (λ two. absurd (ran_not_two c.run.result c.run.ensures.ran.statuses two), λ none. two_jobs (Some Run) None (sym is ∙ c.read_job.ensures.job ∙ none) refl)
+    (λ two. absurd (ran_not_two c.carry_out_script.result c.carry_out_script.ensures.ran.statuses two), λ none. two_jobs (Some Run) None (sym is ∙ c.read_job.ensures.job ∙ none) refl)
 
 pub returns-in-Some-Run-clause-refused : goal.returns-in-Some-Run-clause-refused
-returns-in-Some-Run-clause-refused g c = λ two. absurd (ran_not_two c.run.result c.run.ensures.ran.statuses two)
+returns-in-Some-Run-clause-refused g c = λ two. absurd (ran_not_two c.carry_out_script.result c.carry_out_script.ensures.ran.statuses two)
 
 pub returns-in-Some-Run-clause-no_pull : goal.returns-in-Some-Run-clause-no_pull
 returns-in-Some-Run-clause-no_pull g c = λ no other.
@@ -177,7 +177,7 @@ returns-in-Some-Run-clause-init g c = λ pages e.
     two_jobs (Some Run) (Some (Init pages)) (sym is ∙ c.read_job.ensures.job ∙ e) refl
 
 pub returns-in-Some-Run-clause-run : goal.returns-in-Some-Run-clause-run
-returns-in-Some-Run-clause-run g c = λ e. c.run.ensures.ran
+returns-in-Some-Run-clause-run g c = λ e. c.carry_out_script.ensures.ran
 
 pub returns-in-Some-Run-clause-check : goal.returns-in-Some-Run-clause-check
 returns-in-Some-Run-clause-check g c = λ e.

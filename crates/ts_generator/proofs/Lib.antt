@@ -1,0 +1,5 @@
+mod GenLemmas
+mod GeneratedLemmas
+mod GeneratingLemmas
+mod ReachedLemmas
+mod SummaryLemmas

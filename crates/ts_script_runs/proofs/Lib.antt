@@ -1,0 +1,5 @@
+mod ApartLemmas
+mod FeedLemmas
+mod ItemLemmas
+mod OpenedLemmas
+mod RunLemmas
