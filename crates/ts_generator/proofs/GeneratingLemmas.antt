@@ -11,12 +11,12 @@ use Rattle.ts_command.specs.declared.command.Command.{Command}
 use Rattle.ts_answer.specs.State.{State, committed, run_answer, after, replies}
 use Rattle.ts_answer.specs.Outcomes.{ends_with_ok}
 use Rattle.ts_answer.proofs.CallerLemmas.{after_more, replies_more}
-use Rattle.ts_engine.specs.declared.fault.StepFault.{StepFault}
-use Rattle.ts_engine.specs.declared.fault.StepFault.TheVariants as faults
+use Rattle.ts_opening.specs.Engine.{StepFault}
+use Rattle.ts_opening.specs.Faults as faults
 use Rattle.ts_volume.specs.Volume.{MeansCatalogue}
-use Rattle.ts_engine.specs.Engine.{Kept, IsReady, IsAt}
-use Rattle.ts_engine.specs.Moves.{BeforeOrAfter}
-use Rattle.ts_engine.specs.Step.{Stepped, state_after}
+use Rattle.ts_opening.specs.Engine.{Kept, IsReady, IsAt}
+use Rattle.ts_opening.specs.Engine.{BeforeOrAfter}
+use Rattle.ts_opening.specs.Engine.{Stepped, state_after}
 use Rattle.ts_generator.specs.Generating.{last_two, summary, IsTally, IsAmong, QuietFault, RanQuietly, IsBehind, IsNextStep, IsUnmade, IsWithin, SaysSummary, OpenedGen}
 use Rattle.ts_generator.specs.Generated.{IsNext}
 use Rattle.ts_generator.specs.declared.generate.Generator.{Generator}

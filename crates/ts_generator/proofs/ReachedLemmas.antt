@@ -2,8 +2,8 @@
 use Rattle.std.proofs.Common.{◌≡◌, ◌⊎◌, ℕ, ◌+◌, ◌^◌, ◌≤◌, ◌<◌, Bool, List, [], length, take, Ok, Err, sym, ◌∙◌, ap, subst, arith, length-take, take_all}
 use Rattle.ts_disk.specs.Device.{Device}
 use Rattle.ts_command.specs.declared.command.Command.{Command}
-use Rattle.ts_engine.specs.declared.fault.StepFault.{StepFault}
-use Rattle.ts_engine.specs.Engine.{Kept, IsReady}
+use Rattle.ts_opening.specs.Engine.{StepFault}
+use Rattle.ts_opening.specs.Engine.{Kept, IsReady}
 use Rattle.ts_generator.specs.declared.generate.Generator.{Generator}
 use Rattle.ts_multi.specs.Picks.{drawn}
 use Rattle.ts_generator.specs.Generated.{generated, edits_before}

@@ -4,8 +4,8 @@ use Rattle.std.specs.Fmt.{decimal}
 use Rattle.ts_disk.specs.Device.{Device, Says}
 use Rattle.ts_answer.specs.State.{State, replies}
 use Rattle.ts_answer.proofs.CallerLemmas.{length-replies}
-use Rattle.ts_engine.specs.declared.fault.StepFault.TheVariants as faults
-use Rattle.ts_engine.specs.Engine.{Kept, IsAt}
+use Rattle.ts_opening.specs.Faults as faults
+use Rattle.ts_opening.specs.Engine.{Kept, IsAt}
 use Rattle.ts_generator.specs.declared.generate.Generator.{Generator}
 use Rattle.ts_generator.specs.Generated.{generated}
 use Rattle.ts_generator.specs.Generating.{summary, RanQuietly, IsBehind, OpenedGen}

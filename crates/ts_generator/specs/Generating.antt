@@ -9,11 +9,11 @@ use Rattle.ts_command.specs.declared.command.Command.{Command}
 use Rattle.ts_model.specs.Catalogue.{Catalogue}
 use Rattle.ts_answer.specs.State.{State, resting, committed, after, replies}
 use Rattle.ts_answer.specs.Outcomes.{ends_with_ok}
-use Rattle.ts_engine.specs.declared.fault.StepFault.{StepFault}
-use Rattle.ts_engine.specs.declared.fault.StepFault.TheVariants.{Disk, Memory, Closed}
+use Rattle.ts_opening.specs.Engine.{StepFault}
+use Rattle.ts_opening.specs.Faults.{Disk, Memory, Closed}
 use Rattle.ts_volume.specs.Volume.{MeansCatalogue}
-use Rattle.ts_engine.specs.Engine.{Kept, IsReady, IsAt, NothingIsPending}
-use Rattle.ts_engine.specs.Step.{Stepped}
+use Rattle.ts_opening.specs.Engine.{Kept, IsReady, IsAt, NothingIsPending}
+use Rattle.ts_opening.specs.Engine.{Stepped}
 use Rattle.ts_generator.specs.declared.generate.Generator.{Generator}
 use Rattle.ts_opening.specs.Opening.{OpensStore}
 use Rattle.ts_generator.specs.Generated.{generated, IsNext}

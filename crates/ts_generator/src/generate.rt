@@ -2,8 +2,8 @@
 ghost use Rattle.std.specs.Prelude.{◌≡◌, ◌+◌, ◌≤◌, ◌<◌, ◌^◌, ◌++◌, [], ◌∷◌, ℕ, List, if◌then◌else◌, not, IfOk, OnOk};
 ghost use Rattle.std.specs.Prelude.{IfErr, ◌⊎◌, IsErr, codes, decimal};
 ghost use Rattle.ts_command.specs.Form.{HasForm};
-ghost use Rattle.ts_engine.specs.Engine.{IsReady};
-ghost use Rattle.ts_engine.specs.Step.{Stepped};
+ghost use Rattle.ts_opening.specs.Engine.{IsReady};
+ghost use Rattle.ts_opening.specs.Engine.{Stepped};
 ghost use Rattle.ts_multi.specs.Picks.{drawn};
 ghost use Rattle.ts_generator.specs.Generated.{generated, edits_before};
 ghost use Rattle.ts_generator.specs.Generating.{GenRan, OpenedGen, RanQuietly, IsBehind, IsNextStep, IsUnmade, IsTally};
@@ -16,8 +16,7 @@ use ts_answer::ends_with_ok;
 use ts_base::{Bytes, Reply};
 use ts_command::Command;
 use ts_disk::Site;
-use ts_engine::{Engine, StepFault};
-use ts_opening::unopened;
+use ts_opening::{Engine, StepFault, unopened};
 use ts_text::print_number;
 
 /// Commands that are carried out: the engine of the volume, the last two replies, and how many of all end with an `ok`

@@ -1,2 +1,4 @@
 pub mod Opening
 pub mod Taken
+pub mod Engine
+pub mod Faults

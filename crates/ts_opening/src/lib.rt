@@ -10,3 +10,4 @@ mod pull;
 
 pub use opening::unopened;
 pub use pull::{PIECE, pull_front, room_after};
+pub use ts_engine::{Engine, StepFault};

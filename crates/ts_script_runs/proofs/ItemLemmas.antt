@@ -21,16 +21,16 @@ use Rattle.ts_command.specs.Misfit.{IsCause}
 use Rattle.ts_command.specs.Script.{Request, or_syntax}
 use Rattle.ts_replies.specs.Acknowledged.{IsStep, memory_line}
 use Rattle.ts_replies.proofs.Steps.{one_waits, none_good}
-use Rattle.ts_engine.specs.declared.fault.StepFault.{StepFault}
-use Rattle.ts_engine.specs.declared.fault.StepFault.TheVariants as faults
+use Rattle.ts_opening.specs.Engine.{StepFault}
+use Rattle.ts_opening.specs.Faults as faults
 use Rattle.ts_answer.specs.Reply.{refusal_line}
 use Rattle.ts_answer.specs.State.{State, committed, newest, run_outcome, run_answer}
 use Rattle.ts_answer.specs.View.{IsSeen}
 use Rattle.ts_volume.specs.Volume.{MeansCatalogue}
-use Rattle.ts_engine.specs.declared.transaction.Saved.{Saved}
-use Rattle.ts_engine.specs.Engine.{Kept, IsReady, IsAt, IsSmall, rolled_back, seen_by}
-use Rattle.ts_engine.specs.Moves.{IsUntouched}
-use Rattle.ts_engine.specs.Step.{Stepped, state_after}
+use Rattle.ts_opening.specs.Engine.{Saved}
+use Rattle.ts_opening.specs.Engine.{Kept, IsReady, IsAt, IsSmall, rolled_back, seen_by}
+use Rattle.ts_opening.specs.Engine.{IsUntouched}
+use Rattle.ts_opening.specs.Engine.{Stepped, state_after}
 use Rattle.ts_carriers.specs.declared.fault.RunFault.{RunFault}
 use Rattle.ts_carriers.specs.declared.fault.RunFault.TheVariants.{Disk, Output}
 use Rattle.ts_script_runs.proofs.ApartLemmas.{apart}

@@ -7,9 +7,9 @@ use Rattle.ts_command.specs.Script.{Request}
 use Rattle.ts_model.specs.Catalogue.{Catalogue}
 use Rattle.ts_answer.specs.State.{resting}
 use Rattle.ts_container.specs.declared.fault.SurveyFault.{SurveyFault}
-use Rattle.ts_engine.specs.declared.engine.Engine.{Engine}
+use Rattle.ts_opening.specs.Engine.{Engine}
 use Rattle.ts_volume.specs.Volume.{MeansCatalogue}
-use Rattle.ts_engine.specs.Start.{Started, StillMeans}
+use Rattle.ts_opening.specs.Engine.{Started, StillMeans}
 use Rattle.ts_script_runs.proofs.ApartLemmas.{apart}
 use Rattle.ts_script_runs.specs.Run.{script}
 use Rattle.ts_opening.specs.Opening.{status_of_opening, OpensStore}

@@ -5,7 +5,7 @@ use Rattle.ts_disk.specs.Device.{Device, LeavesOnly, Rose}
 use Rattle.ts_disk.specs.Input.{Input}
 use Rattle.ts_command.specs.Script.{Request, requests, last_request}
 use Rattle.ts_answer.specs.State.{State}
-use Rattle.ts_engine.specs.Engine.{Kept, IsAt}
+use Rattle.ts_opening.specs.Engine.{Kept, IsAt}
 use Rattle.ts_carriers.specs.declared.fault.RunFault.{RunFault}
 use Rattle.ts_carriers.specs.declared.fault.RunFault.TheVariants.{Disk, Output}
 use Rattle.ts_script_runs.specs.Run.{script, by_engine}

@@ -7,7 +7,7 @@ use Rattle.ts_replies.specs.Acknowledged.{Protocol}
 use Rattle.ts_answer.specs.State.{State, committed, run_answer, stand_in}
 use Rattle.ts_volume.specs.Volume.{MeansCatalogue}
 use Rattle.ts_carriers.specs.Run.{Carrier}
-use Rattle.ts_engine.specs.Engine.{Kept, IsReady, IsAt}
+use Rattle.ts_opening.specs.Engine.{Kept, IsReady, IsAt}
 
 -- what the items ask for that end within these bytes, which come at this place of a script
 abbrev pub requests_from : Option (List ℕ) → List ℕ → List Request

@@ -1,7 +1,7 @@
 // A script, pulled in pieces and carried out piece by piece.
 ghost use Rattle.std.specs.Prelude.{◌≡◌, Some, [], length};
 ghost use Rattle.ts_carriers.specs.Run.{status_of, status_of_end};
-ghost use Rattle.ts_engine.specs.Engine.{IsReady};
+ghost use Rattle.ts_opening.specs.Engine.{IsReady};
 ghost use Rattle.ts_script_runs.specs.Script.{OpenedRan};
 
 use crate::session::Session;

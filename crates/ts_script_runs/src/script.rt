@@ -10,8 +10,7 @@ use std::thread::Threads;
 use ts_base::Reply;
 use ts_command::Reader;
 use ts_disk::{Site, Source};
-use ts_engine::Engine;
-use ts_opening::{PIECE, unopened};
+use ts_opening::{Engine, PIECE, unopened};
 
 /// Opens the volume, pulls the script of a source in pieces, and carries it out, one reply per item. The program's
 /// status:

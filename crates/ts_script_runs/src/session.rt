@@ -7,7 +7,7 @@ ghost use Rattle.ts_items.specs.Reader.{item_of};
 ghost use Rattle.ts_command.specs.Form.{HasForm};
 ghost use Rattle.ts_command.specs.Grammar.{command_of};
 ghost use Rattle.ts_command.specs.Script.{request_of, or_syntax};
-ghost use Rattle.ts_engine.specs.Engine.{IsReady};
+ghost use Rattle.ts_opening.specs.Engine.{IsReady};
 ghost use Rattle.ts_carriers.specs.Run.{Ran};
 ghost use Rattle.ts_script_runs.specs.Run.{script, by_engine, requests_from, requests_at_end};
 
@@ -17,7 +17,7 @@ use ts_base::{Reply, Trouble};
 use ts_carriers::RunFault;
 use ts_command::{Command, Cut, Reader, read_command};
 use ts_disk::Site;
-use ts_engine::{Engine, StepFault};
+use ts_opening::{Engine, StepFault};
 
 const SYNTAX_LINE: &[u8] = b"error 1 Syntax\n";
 

@@ -5,3 +5,5 @@ pub mod Proceeds
 pub mod Replayed
 pub mod Stepped
 pub mod Viewed
+pub mod Engine
+pub mod Faults

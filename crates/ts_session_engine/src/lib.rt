@@ -16,4 +16,5 @@ mod view;
 pub use beside::step_beside;
 pub use commit::commit_view;
 pub use open::open_view;
+pub use ts_engine::{Engine, StepFault};
 pub use view::step_view;

@@ -10,9 +10,9 @@ use Rattle.ts_sessions.specs.Machine.{Machine, latest, snapshot_at}
 use Rattle.ts_sessions.proofs.CallerLemmas.{told_apart}
 use Rattle.ts_views.specs.View.{view_of, OfEachOpen}
 use Rattle.ts_view_catalogues.specs.Catalogues.{IsViewReady}
-use Rattle.ts_engine.specs.Engine.{Kept}
-use Rattle.ts_session_engine.specs.Beside.{newest}
-use Rattle.ts_session_engine.proofs.CallerLemmas.{at_same, ready_same}
+use Rattle.ts_session_turns.specs.Engine.{Kept}
+use Rattle.ts_session_turns.specs.Passed.{newest}
+use Rattle.ts_session_turns.proofs.CallerLemmas.{at_same, ready_same}
 use Rattle.ts_session_turns.specs.Hand.{Hand, IsHandReady, IsAtMachine, ShowsSnapshot}
 use Rattle.ts_carriers.proofs.CallerLemmas.{IsSteady}
 use Rattle.ts_session_runs.specs.Carrier.{sessions, by_sessions}

@@ -9,7 +9,7 @@ use Rattle.ts_store.proofs.CallerLemmas.{reads_none}
 use Rattle.ts_sessions.specs.Machine.{start}
 use Rattle.ts_sessions.specs.Steps.{Turn}
 use Rattle.ts_sessions.specs.Turns.{requests_of}
-use Rattle.ts_engine.specs.Engine.{Kept}
+use Rattle.ts_session_turns.specs.Engine.{Kept}
 use Rattle.ts_carriers.specs.declared.fault.RunFault.{RunFault}
 use Rattle.ts_carriers.specs.declared.fault.RunFault.TheVariants.{Disk, Output}
 use Rattle.ts_carriers.specs.Run.{status_of_end}

@@ -11,8 +11,8 @@ use Rattle.ts_sessions.specs.LogOf.{pending_of}
 use Rattle.ts_sessions.proofs.CallerLemmas.{no_snapshot, sound_start}
 use Rattle.ts_views.specs.declared.view.View.{View}
 use Rattle.ts_views.specs.View.{view_of}
-use Rattle.ts_engine.specs.Engine.{Kept, IsAt}
-use Rattle.ts_session_engine.specs.Beside.{newest}
+use Rattle.ts_session_turns.specs.Engine.{Kept, IsAt}
+use Rattle.ts_session_turns.specs.Passed.{newest}
 use Rattle.ts_session_turns.specs.Hand.{Hand, hand, IsAtMachine, ShowsSnapshot}
 
 -- no session has a transaction

@@ -18,7 +18,7 @@ use Rattle.ts_volume.specs.Volume.{MeansCatalogue}
 use Rattle.ts_answer.specs.Reply.{refusal_line}
 use Rattle.ts_sessions.specs.Machine.{Machine, latest}
 use Rattle.ts_sessions.specs.Steps.{Turn, session_line, step_of, machine_answer}
-use Rattle.ts_engine.specs.declared.fault.StepFault.TheVariants as faults
+use Rattle.ts_session_turns.specs.Faults as faults
 use Rattle.ts_carriers.specs.declared.fault.RunFault.{RunFault}
 use Rattle.ts_carriers.specs.declared.fault.RunFault.TheVariants.{Disk, Output}
 use Rattle.ts_carriers.specs.Run.{IsGoodRun, Ran, SaysReply}

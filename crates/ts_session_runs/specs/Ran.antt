@@ -7,7 +7,7 @@ use Rattle.ts_answer.specs.State.{resting}
 use Rattle.ts_sessions.specs.Machine.{start}
 use Rattle.ts_sessions.specs.Steps.{Turn}
 use Rattle.ts_carriers.specs.Run.{SaysFairly, IsGoodRun, AllDone}
-use Rattle.ts_engine.specs.Engine.{Kept, IsAt}
+use Rattle.ts_session_turns.specs.Engine.{Kept, IsAt}
 use Rattle.ts_session_runs.specs.Carrier.{sessions}
 
 -- Sessions, so many, are carried out over an engine without a transaction; these are their turns. The status: 0 where

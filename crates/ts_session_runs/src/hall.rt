@@ -25,10 +25,9 @@ use ts_base::{Bytes, Reply, Trouble};
 use ts_carriers::RunFault;
 use ts_command::{Command, read_command};
 use ts_disk::Site;
-use ts_engine::{Engine, StepFault};
 use ts_multi::Sessions;
 use ts_session_scripts::{Piece, Script, next_session, scripts_of};
-use ts_session_turns::answer;
+use ts_session_turns::{Engine, StepFault, answer};
 use ts_views::Views;
 
 const SYNTAX_LINE: &[u8] = b"error 1 Syntax\n";

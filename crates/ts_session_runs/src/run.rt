@@ -3,7 +3,7 @@ ghost use Rattle.std.specs.Prelude.{◌≡◌, ◌≤◌, None, length};
 ghost use Rattle.std.specs.List.{sum_by};
 ghost use Rattle.ts_sessions.specs.Turns.{turns};
 ghost use Rattle.ts_carriers.specs.Run.{status_of, status_of_end};
-ghost use Rattle.ts_engine.specs.Engine.{IsReady};
+ghost use Rattle.ts_session_turns.specs.Engine.{IsReady};
 ghost use Rattle.ts_session_runs.specs.Ran.{SessionsOver};
 
 use crate::hall::Hall;
@@ -12,7 +12,7 @@ use std::thread::Threads;
 use ts_base::Bytes;
 use ts_carriers::RunFault;
 use ts_disk::Site;
-use ts_engine::Engine;
+use ts_session_turns::Engine;
 
 /// Carries sessions out over an engine without a transaction: the scripts of sections, one a session, item by item, in
 /// the order that picks decide. Each reply is said behind the line of its session. The status:

@@ -10,8 +10,8 @@ use Rattle.ts_sessions.specs.Steps.{Turn}
 use Rattle.ts_sessions.proofs.CallerLemmas.{told_apart}
 use Rattle.ts_container.specs.declared.fault.SurveyFault.{SurveyFault}
 use Rattle.ts_volume.specs.Volume.{MeansCatalogue}
-use Rattle.ts_engine.specs.declared.engine.Engine.{Engine}
-use Rattle.ts_engine.specs.Start.{Started, StillMeans}
+use Rattle.ts_opening.specs.Engine.{Engine}
+use Rattle.ts_opening.specs.Engine.{Started, StillMeans}
 use Rattle.ts_carriers.specs.Run.{SaysFairly, IsGoodRun, AllDone}
 use Rattle.ts_carriers.proofs.CallerLemmas.{rose_on}
 use Rattle.ts_opening.specs.Opening.{status_of_opening}

@@ -4,7 +4,7 @@ use Rattle.ts_disk.specs.Device.{Device}
 use Rattle.ts_disk.specs.Input.{Input}
 use Rattle.ts_journal.specs.Moment.{OnlyReads}
 use Rattle.ts_multi.specs.Sections.{sections}
-use Rattle.ts_engine.specs.Engine.{Kept}
+use Rattle.ts_opening.specs.Engine.{Kept}
 use Rattle.ts_session_runs.specs.Ran.{SessionsOver}
 use Rattle.ts_session_source.specs.declared.fault.TextFault.{TextFault}
 use Rattle.ts_session_source.specs.Fault.{status_of_text}

@@ -12,7 +12,7 @@ use Rattle.ts_sessions.specs.Machine.{Machine, start}
 use Rattle.ts_sessions.specs.Steps.{Turn}
 use Rattle.ts_sessions.specs.Turns.{requests_of, turns}
 use Rattle.ts_volume.specs.Volume.{MeansCatalogue}
-use Rattle.ts_engine.specs.Start.{StillMeans}
+use Rattle.ts_opening.specs.Engine.{StillMeans}
 use Rattle.ts_carriers.specs.Run.{AllDone}
 use Rattle.ts_opening.specs.Opening.{OpensStore}
 use Rattle.ts_opening.specs.Taken.{TookTooMuch, TookEnough, RanFrom}

@@ -1,6 +1,6 @@
 // The sessions of a source.
 ghost use Rattle.std.specs.Prelude.{◌≡◌, ◌≤◌, None, length};
-ghost use Rattle.ts_engine.specs.Engine.{IsReady};
+ghost use Rattle.ts_opening.specs.Engine.{IsReady};
 ghost use Rattle.ts_session_source.specs.Opened.{TextRan, OpenedSessions};
 ghost use Rattle.ts_session_source.specs.Sessions.{SessionsRan};
 
@@ -10,8 +10,7 @@ use crate::text::take_text;
 use std::alloc::Global;
 use std::thread::Threads;
 use ts_disk::{Site, Source};
-use ts_engine::Engine;
-use ts_opening::unopened;
+use ts_opening::{Engine, unopened};
 use ts_session_runs::run_sessions;
 
 /// Opens the volume, takes all of a source, and carries its sections out as the scripts of sessions, in the order that

@@ -15,7 +15,7 @@ use Rattle.ts_sessions.specs.Steps.{fresh, step_of, with_snapshot}
 use Rattle.ts_sessions.specs.LogOf.{log_of}
 use Rattle.ts_views.specs.declared.view.View.{View}
 use Rattle.ts_view_catalogues.specs.Catalogues.{IsViewReady, ViewMeans}
-use Rattle.ts_engine.specs.Engine.{Kept}
+use Rattle.ts_session_engine.specs.Engine.{Kept}
 use Rattle.ts_session_engine.specs.Beside.{newest, SamePages, OthersStay}
 use Rattle.ts_session_engine.specs.Committed.{AreCommands}
 use Rattle.ts_session_engine.specs.Opened.{IsNewest}

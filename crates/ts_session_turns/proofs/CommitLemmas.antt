@@ -22,10 +22,10 @@ use Rattle.ts_sessions.proofs.CallerLemmas.{behind_commits_more}
 use Rattle.ts_views.specs.declared.view.View.{View}
 use Rattle.ts_views.specs.View.{view_of}
 use Rattle.ts_view_catalogues.specs.Catalogues.{IsViewReady}
-use Rattle.ts_engine.specs.declared.fault.StepFault.{StepFault}
-use Rattle.ts_engine.specs.declared.fault.StepFault.TheVariants.{Disk, Memory, Closed}
-use Rattle.ts_engine.specs.Engine.{Kept, IsAt}
-use Rattle.ts_engine.specs.Moves.{BeforeOrAfter}
+use Rattle.ts_session_engine.specs.Engine.{StepFault}
+use Rattle.ts_session_engine.specs.Faults.{Disk, Memory, Closed}
+use Rattle.ts_session_engine.specs.Engine.{Kept, IsAt}
+use Rattle.ts_session_engine.specs.Engine.{BeforeOrAfter}
 use Rattle.ts_session_engine.specs.Beside.{newest, AllStay}
 use Rattle.ts_session_engine.specs.Committed.{AreCommands, CommitsView, IsCommitReply, come_to, commands_of, listed, state_behind}
 use Rattle.ts_session_turns.specs.Hand.{Hand, hand, IsHandReady, IsAtMachine, ShowsSnapshot}

@@ -24,10 +24,10 @@ use Rattle.ts_sessions.proofs.CallerLemmas.{accepted_answer, carried_more}
 use Rattle.ts_views.specs.declared.view.View.{View}
 use Rattle.ts_views.specs.View.{view_of, Turns}
 use Rattle.ts_view_catalogues.specs.Catalogues.{IsViewReady, ViewMeans}
-use Rattle.ts_engine.specs.declared.fault.StepFault.{StepFault}
-use Rattle.ts_engine.specs.declared.fault.StepFault.TheVariants.{Disk, Memory, Closed}
-use Rattle.ts_engine.specs.Engine.{Kept, IsReady}
-use Rattle.ts_engine.specs.Moves.{BeforeOrAfter}
+use Rattle.ts_session_engine.specs.Engine.{StepFault}
+use Rattle.ts_session_engine.specs.Faults.{Disk, Memory, Closed}
+use Rattle.ts_session_engine.specs.Engine.{Kept, IsReady}
+use Rattle.ts_session_engine.specs.Engine.{BeforeOrAfter}
 use Rattle.ts_session_engine.specs.Beside.{newest, OthersStay}
 use Rattle.ts_session_engine.specs.Committed.{AreCommands, listed}
 use Rattle.ts_session_engine.specs.Stepped.{ViewTurns, StepsView, noted_in}

@@ -9,3 +9,4 @@ mod OutsideLemmas
 mod ReadyLemmas
 mod StandLemmas
 mod TurnedLemmas
+pub mod CallerLemmas

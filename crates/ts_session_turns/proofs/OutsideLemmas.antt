@@ -22,11 +22,11 @@ use Rattle.ts_sessions.specs.Machine.{Machine, latest, snapshot_at}
 use Rattle.ts_sessions.specs.Steps.{step_of, with_commit}
 use Rattle.ts_sessions.proofs.CallerLemmas.{accepted_answer, behind_commits_more}
 use Rattle.ts_views.specs.declared.view.View.{View}
-use Rattle.ts_engine.specs.declared.fault.StepFault.{StepFault}
-use Rattle.ts_engine.specs.declared.fault.StepFault.TheVariants.{Disk, Memory, Closed}
-use Rattle.ts_engine.specs.Engine.{Kept, IsReady, IsAt}
-use Rattle.ts_engine.specs.Moves.{BeforeOrAfter}
-use Rattle.ts_engine.specs.Step.{state_after}
+use Rattle.ts_session_engine.specs.Engine.{StepFault}
+use Rattle.ts_session_engine.specs.Faults.{Disk, Memory, Closed}
+use Rattle.ts_session_engine.specs.Engine.{Kept, IsReady, IsAt}
+use Rattle.ts_session_engine.specs.Engine.{BeforeOrAfter}
+use Rattle.ts_session_engine.specs.Engine.{state_after}
 use Rattle.ts_session_engine.specs.Beside.{newest, AllStay}
 use Rattle.ts_session_engine.specs.Stepped.{StepsBeside}
 use Rattle.ts_session_turns.specs.Hand.{Hand, hand, IsHandReady, IsAtMachine}

@@ -12,9 +12,9 @@ use Rattle.ts_sessions.specs.Steps.{Turn, step_of}
 use Rattle.ts_sessions.specs.Laws.{IsSound}
 use Rattle.ts_sessions.proofs.CallerLemmas.{sound_step}
 use Rattle.ts_views.specs.declared.view.View.{View}
-use Rattle.ts_engine.specs.declared.fault.StepFault.{StepFault}
-use Rattle.ts_engine.specs.declared.fault.StepFault.TheVariants.{Disk, Memory, Closed}
-use Rattle.ts_engine.specs.Engine.{Kept}
+use Rattle.ts_session_engine.specs.Engine.{StepFault}
+use Rattle.ts_session_engine.specs.Faults.{Disk, Memory, Closed}
+use Rattle.ts_session_engine.specs.Engine.{Kept}
 use Rattle.ts_session_engine.specs.Beside.{GoesOn}
 use Rattle.ts_session_turns.specs.Hand.{Hand, hand, IsHandReady, IsAtMachine}
 use Rattle.ts_session_turns.specs.Turned.{BeforeOrBehind, Turned}

@@ -10,7 +10,7 @@ use Rattle.ts_sessions.specs.Laws.{IsSound}
 use Rattle.ts_views.specs.declared.view.View.{View}
 use Rattle.ts_views.specs.View.{view_of, OfEachOpen}
 use Rattle.ts_view_catalogues.specs.Catalogues.{ViewMeans}
-use Rattle.ts_engine.specs.Engine.{Kept, IsAt}
+use Rattle.ts_session_engine.specs.Engine.{Kept, IsAt}
 use Rattle.ts_session_engine.specs.Beside.{newest, AreBeside}
 use Rattle.ts_session_engine.specs.Committed.{AreCommands}
 

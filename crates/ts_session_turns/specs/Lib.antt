@@ -1,2 +1,5 @@
 pub mod Hand
 pub mod Turned
+pub mod Engine
+pub mod Passed
+pub mod Faults

@@ -6,8 +6,8 @@ use Rattle.ts_command.specs.Script.{Request}
 use Rattle.ts_sessions.specs.Machine.{Machine, latest}
 use Rattle.ts_sessions.specs.Steps.{step_of}
 use Rattle.ts_volume.specs.Volume.{MeansCatalogue}
-use Rattle.ts_engine.specs.declared.fault.StepFault.{StepFault}
-use Rattle.ts_engine.specs.declared.fault.StepFault.TheVariants.{Disk, Closed}
+use Rattle.ts_session_engine.specs.Engine.{StepFault}
+use Rattle.ts_session_engine.specs.Faults.{Disk, Closed}
 use Rattle.ts_session_engine.specs.Beside.{GoesOn}
 use Rattle.ts_session_turns.specs.Hand.{Hand, IsHandReady, IsAtMachine}
 

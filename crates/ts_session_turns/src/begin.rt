@@ -8,10 +8,9 @@ ghost use Rattle.ts_session_turns.specs.Turned.{Turned};
 use ts_base::{Refusal, Reply};
 use ts_command::Command;
 use ts_disk::Volume;
-use ts_engine::{Engine, StepFault};
 use ts_multi::Sessions;
 use ts_say::{say_ok, say_refusal};
-use ts_session_engine::open_view;
+use ts_session_engine::{Engine, StepFault, open_view};
 use ts_views::Views;
 
 /// Begins the transaction of a session: its view is the newest catalogue.

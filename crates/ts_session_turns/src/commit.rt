@@ -12,10 +12,9 @@ use std::thread::Threads;
 use ts_base::{Refusal, Reply};
 use ts_command::Command;
 use ts_disk::Volume;
-use ts_engine::{Engine, StepFault};
 use ts_multi::Sessions;
 use ts_say::say_refusal;
-use ts_session_engine::commit_view;
+use ts_session_engine::{Engine, StepFault, commit_view};
 use ts_views::Views;
 
 /// Commits the transaction of a session, unless a commit stands in its way, or the newest catalogue refuses one of its

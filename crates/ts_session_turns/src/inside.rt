@@ -15,10 +15,9 @@ use ts_answer::ends_with_ok;
 use ts_base::{Refusal, Reply};
 use ts_command::Command;
 use ts_disk::Volume;
-use ts_engine::{Engine, StepFault};
 use ts_multi::{Sessions, objects};
 use ts_say::say_refusal;
-use ts_session_engine::step_view;
+use ts_session_engine::{Engine, StepFault, step_view};
 use ts_views::Views;
 
 /// So many commands that write a transaction has at most.

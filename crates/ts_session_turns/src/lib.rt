@@ -11,4 +11,5 @@ mod inside;
 mod outside;
 mod turn;
 
+pub use ts_session_engine::{Engine, StepFault};
 pub use turn::answer;

@@ -12,9 +12,8 @@ use ts_answer::ends_with_ok;
 use ts_base::Reply;
 use ts_command::Command;
 use ts_disk::Volume;
-use ts_engine::{Engine, StepFault};
 use ts_multi::{Sessions, objects};
-use ts_session_engine::step_beside;
+use ts_session_engine::{Engine, StepFault, step_beside};
 use ts_views::Views;
 
 /// Carries a command out on the newest catalogue. One that writes and is accepted is a commit of its own.

@@ -14,9 +14,9 @@ use std::thread::Threads;
 use ts_base::{Refusal, Reply};
 use ts_command::{Boundary, Command};
 use ts_disk::Volume;
-use ts_engine::{Engine, StepFault};
 use ts_multi::Sessions;
 use ts_say::say_refusal;
+use ts_session_engine::{Engine, StepFault};
 use ts_views::Views;
 
 /// Carries out a command of a session, counted from 0, and gives its reply: one that begins, commits or rolls back its

@@ -7,14 +7,14 @@ use Rattle.ts_answer.specs.State.{resting}
 use Rattle.ts_volume.proofs.CallerLemmas.{nothing_meant}
 use Rattle.ts_container.specs.declared.fault.SurveyFault.{SurveyFault}
 use Rattle.ts_container.specs.declared.fault.SurveyFault.TheVariants.{NotAStore, Failed, Memory}
-use Rattle.ts_engine.specs.declared.engine.Engine.{Engine}
-use Rattle.ts_engine.specs.declared.fault.StepFault.{StepFault}
-use Rattle.ts_engine.specs.declared.fault.StepFault.TheVariants as step
+use Rattle.ts_opening.specs.Engine.{Engine}
+use Rattle.ts_opening.specs.Engine.{StepFault}
+use Rattle.ts_opening.specs.Faults as step
 use Rattle.ts_volume.specs.Volume.{MeansCatalogue}
-use Rattle.ts_engine.specs.Engine.{Kept}
-use Rattle.ts_engine.specs.Start.{Started, StillMeans}
-use Rattle.ts_engine.specs.Moves.{Moves}
-use Rattle.ts_engine.specs.Migrate.{state_renewed}
+use Rattle.ts_opening.specs.Engine.{Kept}
+use Rattle.ts_opening.specs.Engine.{Started, StillMeans}
+use Rattle.ts_opening.specs.Engine.{Moves}
+use Rattle.ts_opening.specs.Engine.{state_renewed}
 use Rattle.ts_opening.specs.Opening.{status_of_opening}
 use Rattle.ts_shell.specs.Migrating.{InEitherFormat, MigratedFrom, MigrateRan}
 use Rattle.ts_carriers.proofs.CallerLemmas.{rose_on}

@@ -3,8 +3,8 @@ use Rattle.std.specs.Prelude.{◌≡◌, ◌⊎◌, ℕ, Bool, IsTrue, List}
 use Rattle.ts_disk.specs.Device.{Device, Rose, FirstSync}
 use Rattle.ts_model.specs.Catalogue.{Catalogue, in_newest_format}
 use Rattle.ts_volume.specs.Volume.{MeansCatalogue}
-use Rattle.ts_engine.specs.Engine.{NothingIsPending}
-use Rattle.ts_engine.specs.Start.{StillMeans}
+use Rattle.ts_opening.specs.Engine.{NothingIsPending}
+use Rattle.ts_opening.specs.Engine.{StillMeans}
 use Rattle.ts_opening.specs.Opening.{OpensStore}
 
 -- an image that means the catalogue in its own format or in the newest, and nothing said

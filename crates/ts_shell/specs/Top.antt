@@ -4,7 +4,7 @@ use Rattle.ts_disk.specs.Device.{Device, Within, Rose}
 use Rattle.ts_page.specs.Volume.{page_size, first_element_page}
 use Rattle.ts_model.specs.Catalogue.{empty_catalogue, newest_format}
 use Rattle.ts_volume.specs.Volume.{MeansCatalogue}
-use Rattle.ts_engine.specs.Engine.{NothingIsPending}
+use Rattle.ts_opening.specs.Engine.{NothingIsPending}
 use Rattle.ts_shell.specs.Making.{EmptyFrom}
 
 -- no call was made that does anything

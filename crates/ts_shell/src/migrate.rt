@@ -3,8 +3,7 @@ ghost use Rattle.ts_shell.specs.Migrating.{MigrateRan};
 
 use std::alloc::Global;
 use ts_disk::Site;
-use ts_engine::{Engine, StepFault};
-use ts_opening::unopened;
+use ts_opening::{Engine, StepFault, unopened};
 
 /// Opens the volume, and writes its header in the newest format where it has an older one. The program's status.
 pub(crate) fn migrate<S: Site>(alloc: Global, site: &mut S) -> u8

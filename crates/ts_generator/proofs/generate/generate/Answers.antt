@@ -1,5 +1,5 @@
 use Rattle.std.proofs.Common.{ℕ, sym, subst}
-use Rattle.ts_engine.specs.Engine.{Kept, IsReady}
+use Rattle.ts_opening.specs.Engine.{Kept, IsReady}
 use Rattle.ts_generator.specs.Generated.{generated}
 use Rattle.ts_generator.specs.Generating.{GenRan, OpenedGen}
 use Rattle.ts_generator.proofs.GeneratingLemmas.{behind_none}

@@ -1,7 +1,7 @@
 use Rattle.std.proofs.Common.{◌≡◌, ◌+◌, ◌-◌, ◌≤◌, ◌++◌, ℕ, IsTrue, List, [], length, Some, Ok}
 use Rattle.ts_items.specs.Items.{place_from}
 use Rattle.ts_command.specs.Script.{requests}
-use Rattle.ts_engine.specs.Engine.{IsReady}
+use Rattle.ts_opening.specs.Engine.{IsReady}
 use Rattle.ts_script_runs.specs.Run.{script, by_engine}
 use Rattle.ts_opening.proofs.CallerLemmas.{IsOnce}
 use Rattle.ts_carriers.specs.Run.{Ran}

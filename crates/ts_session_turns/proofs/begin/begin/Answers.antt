@@ -1,6 +1,6 @@
 use Rattle.std.proofs.Common.{List, ◌++◌, ℕ, Ok, refl, ap, sym, ◌∙◌}
 use Rattle.ts_base.specs.declared.refusal.Refusal.TheVariants as refusals
-use Rattle.ts_engine.specs.declared.fault.StepFault.TheVariants.{Memory}
+use Rattle.ts_session_engine.specs.Faults.{Memory}
 use Rattle.ts_answer.specs.Reply.{ok_line, refusal_line}
 use Rattle.ts_multi.specs.Log.{after_begin, pending_at}
 use Rattle.ts_views.specs.View.{view_of}

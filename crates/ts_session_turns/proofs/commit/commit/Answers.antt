@@ -1,7 +1,7 @@
 use Rattle.std.proofs.Common.{List, ◌++◌, ℕ, Bool, Ok, true, false, refl, ap, sym, ◌∙◌, subst}
 use Rattle.ts_base.specs.declared.refusal.Refusal.TheVariants as refusals
 use Rattle.ts_answer.specs.Reply.{refusal_line}
-use Rattle.ts_engine.specs.declared.fault.StepFault.TheVariants.{Memory}
+use Rattle.ts_session_engine.specs.Faults.{Memory}
 use Rattle.ts_multi.specs.Log.{after_commit, after_end, conflict_of, pending_at}
 use Rattle.ts_sessions.specs.Steps.{conflict_lines}
 use Rattle.ts_views.specs.View.{view_of}

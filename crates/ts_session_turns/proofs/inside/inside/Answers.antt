@@ -1,7 +1,7 @@
 use Rattle.std.proofs.Common.{◌<◌, ◌≤◌, List, Option, ◌++◌, ℕ, Ok, length, refl, ap, sym, ◌∙◌, subst, arith}
 use Rattle.ts_base.specs.declared.refusal.Refusal.TheVariants as refusals
 use Rattle.ts_answer.specs.Reply.{refusal_line}
-use Rattle.ts_engine.specs.declared.fault.StepFault.TheVariants.{Memory}
+use Rattle.ts_session_engine.specs.Faults.{Memory}
 use Rattle.ts_views.specs.declared.view.View.{View}
 use Rattle.ts_views.specs.View.{view_of}
 use Rattle.ts_session_engine.specs.Committed.{listed}

@@ -1,6 +1,6 @@
 use Rattle.std.proofs.Common.{Ok, refl, ap, sym, ◌∙◌}
 use Rattle.ts_answer.specs.Outcomes.{ends_with_ok}
-use Rattle.ts_engine.specs.declared.fault.StepFault.TheVariants.{Memory}
+use Rattle.ts_session_engine.specs.Faults.{Memory}
 use Rattle.ts_multi.specs.Log.{with_commit}
 use Rattle.ts_multi.specs.declared.object.Touched.{Touched}
 use Rattle.ts_session_turns.specs.Hand.{hand}

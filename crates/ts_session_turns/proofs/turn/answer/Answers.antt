@@ -1,5 +1,5 @@
 use Rattle.std.proofs.Common.{Some, Ok, refl, ap, sym, ◌∙◌}
-use Rattle.ts_engine.specs.declared.fault.StepFault.TheVariants.{Memory}
+use Rattle.ts_session_engine.specs.Faults.{Memory}
 use Rattle.ts_session_turns.specs.Hand.{hand}
 use Rattle.ts_session_turns.proofs.TurnedLemmas.{reserved_ready, turned_by, turned_none, turned_reserved, turned_to}
 use Rattle.ts_session_turns.proofs.turn.answer.Goals as goal

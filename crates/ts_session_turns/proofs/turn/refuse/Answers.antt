@@ -1,7 +1,7 @@
 use Rattle.std.proofs.Common.{List, ◌++◌, ℕ, Ok, ap, ◌∙◌}
 use Rattle.ts_base.specs.declared.refusal.Refusal.TheVariants as refusals
 use Rattle.ts_answer.specs.Reply.{refusal_line}
-use Rattle.ts_engine.specs.declared.fault.StepFault.TheVariants.{Memory}
+use Rattle.ts_session_engine.specs.Faults.{Memory}
 use Rattle.ts_session_turns.specs.Hand.{hand}
 use Rattle.ts_session_turns.proofs.MachineLemmas.{alone_refused}
 use Rattle.ts_session_turns.proofs.TurnedLemmas.{turned_by, turned_none, turned_said}

@@ -1,7 +1,7 @@
 use Rattle.std.proofs.Common.{◌≡◌, ◌∙◌, ℕ, Result, Err, sym, subst, ap}
-use Rattle.ts_engine.specs.declared.fault.StepFault.{StepFault}
-use Rattle.ts_engine.specs.declared.fault.StepFault.TheVariants as step
-use Rattle.ts_engine.specs.Migrate.{Migrated}
+use Rattle.ts_opening.specs.Engine.{StepFault}
+use Rattle.ts_opening.specs.Faults as step
+use Rattle.ts_opening.specs.Engine.{Migrated}
 use Rattle.ts_shell.specs.Migrating.{MigrateRan}
 use Rattle.ts_shell.proofs.MigratingLemmas.{unmigrated, all_migrated, disk_failed, wanting}
 use Rattle.ts_shell.proofs.migrate.migrate.Goals as goal

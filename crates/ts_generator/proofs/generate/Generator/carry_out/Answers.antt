@@ -1,5 +1,5 @@
 use Rattle.std.proofs.Common.{◌≡◌, ◌++◌, [], ◌∷◌, List, ℕ, Ok, sym, ◌∙◌, ap, subst}
-use Rattle.ts_engine.specs.Step.{Stepped}
+use Rattle.ts_opening.specs.Engine.{Stepped}
 use Rattle.ts_generator.specs.declared.generate.Generator.{Generator}
 use Rattle.ts_generator.specs.Generating.{IsTally}
 use Rattle.ts_generator.proofs.GeneratingLemmas.{tally_more}

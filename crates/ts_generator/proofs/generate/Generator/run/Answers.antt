@@ -1,5 +1,5 @@
 use Rattle.std.proofs.Common.{Err, refl, ◌∙◌, subst}
-use Rattle.ts_engine.specs.declared.fault.StepFault.{StepFault}
+use Rattle.ts_opening.specs.Engine.{StepFault}
 use Rattle.ts_generator.specs.Generated.{generated}
 use Rattle.ts_generator.specs.Generating.{RanQuietly}
 use Rattle.ts_generator.proofs.SummaryLemmas.{stopped_memory, stopped_disk, unsaid_memory, said_whole, said_not_whole}

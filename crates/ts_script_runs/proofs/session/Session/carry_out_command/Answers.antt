@@ -1,6 +1,6 @@
 use Rattle.std.proofs.Common.{◌≡◌, ℕ, List, Result, Ok, Err, sym, ◌∙◌, ap, subst}
-use Rattle.ts_engine.specs.declared.fault.StepFault.{StepFault}
-use Rattle.ts_engine.specs.declared.fault.StepFault.TheVariants as faults
+use Rattle.ts_opening.specs.Engine.{StepFault}
+use Rattle.ts_opening.specs.Faults as faults
 use Rattle.ts_replies.specs.Acknowledged.{memory_line}
 use Rattle.ts_carriers.proofs.CallerLemmas.{Steps, said_ran}
 use Rattle.ts_script_runs.proofs.ItemLemmas.{steady, steps_done, steps_wanting, failed_ran, never_closed}

@@ -1,6 +1,6 @@
 use Rattle.std.proofs.Common.{◌≡◌, Result, Ok, Err, ◌∙◌, ap, subst}
-use Rattle.ts_engine.specs.declared.fault.StepFault.{StepFault}
-use Rattle.ts_engine.specs.declared.fault.StepFault.TheVariants as faults
+use Rattle.ts_session_turns.specs.Engine.{StepFault}
+use Rattle.ts_session_turns.specs.Faults as faults
 use Rattle.ts_session_turns.specs.Hand.{hand}
 use Rattle.ts_session_turns.specs.Turned.{Turned}
 use Rattle.ts_session_runs.proofs.TurnLemmas.{command_stand_in, turn_answered, turn_failed, turn_wanting}
