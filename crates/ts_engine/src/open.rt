@@ -118,7 +118,12 @@ fn settle<V: Volume>(
         (contents_over store (V.device vol.old)) surveyed.defs.definitions surveyed.space surveyed.free.items }
     ensures opened { Opened V.tells result (V.device vol.old) (V.device vol.new) }
 {
-    let Surveyed { defs, space, free, .. } = surveyed;
+    let Surveyed {
+        defs,
+        space,
+        free,
+        ..
+    } = surveyed;
     // A directory has a list for each slot.
     let _slots = space.places(0);
     charges.count(&defs, &space);

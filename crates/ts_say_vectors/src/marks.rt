@@ -51,9 +51,7 @@ fn note_all(marks: &mut Marks, commands: &[Command]) -> Result<(), AllocError> {
 
 // Whether each of them counts the entries of a series that isn't marked.
 fn all_unmarked(marks: &Marks, commands: &[Command]) -> bool {
-    commands
-        .iter()
-        .all(|command| marks.has_unmarked(command))
+    commands.iter().all(|command| marks.has_unmarked(command))
 }
 
 #[test]

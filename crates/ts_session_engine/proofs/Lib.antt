@@ -9,6 +9,7 @@ mod OpenLemmas
 mod OwnLemmas
 mod PlaceLemmas
 mod ProceedLemmas
+mod ReadLemmas
 mod ReplayLemmas
 mod StayLemmas
 mod TurnLemmas

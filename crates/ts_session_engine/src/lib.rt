@@ -10,6 +10,7 @@ mod beside;
 mod commit;
 mod keep;
 mod open;
+mod read;
 mod replay;
 mod view;
 

@@ -18,6 +18,7 @@ ghost use Rattle.ts_session_engine.specs.Beside.{AreBeside, newest};
 ghost use Rattle.ts_session_engine.specs.Stepped.{StepsView};
 ghost use Rattle.ts_session_engine.specs.Viewed.{StepsOwn, WorksInView, KeepsEffect, KeepsWriting, TakesEffect, IsSameView};
 
+use crate::read::read;
 use std::alloc::{AllocError, Global};
 use std::thread::Threads;
 use ts_answer::{Effect, Stop};
@@ -26,7 +27,7 @@ use ts_command::Command;
 use ts_container::Charges;
 use ts_disk::Volume;
 use ts_effects::{apply, reserve_for};
-use ts_engine::{Engine, StepFault};
+use ts_engine::{Engine, StepFault, reads_elements};
 use ts_journal::Batch;
 use ts_say::say_refusal;
 use ts_views::{View, Views};
@@ -90,6 +91,9 @@ fn carry_out<V: Volume>(
     ensures { StepsOwn V.tells command.now result (reply_of result out.new) engine.old engine.new view.entry.now view.exit.now
         (V.device vol.old) (V.device vol.new) }
 {
+    if reads_elements(command) {
+        return read(rt, engine, vol, view, command, out);
+    }
     let alloc = engine.allocator();
     let charges = charges_of(alloc, view)?;
     let free = copy_numbers(alloc, &view.free)?;
