@@ -19,7 +19,7 @@ use Rattle.ts_opening.specs.Engine.{BeforeOrAfter}
 use Rattle.ts_opening.specs.Engine.{Stepped, state_after}
 use Rattle.ts_generator.specs.Generating.{last_two, summary, IsTally, IsAmong, QuietFault, RanQuietly, IsBehind, IsNextStep, IsUnmade, IsWithin, SaysSummary, OpenedGen}
 use Rattle.ts_generator.specs.Generated.{IsNext}
-use Rattle.ts_generator.specs.declared.generate.Generator.{Generator}
+use Rattle.ts_generator.specs.declared.generator.Generator.{Generator}
 use Rattle.ts_carriers.proofs.CallerLemmas.{rose_on}
 
 -- one reply more is counted where it passes the test

@@ -4,7 +4,7 @@ use Rattle.ts_disk.specs.Device.{Device}
 use Rattle.ts_command.specs.declared.command.Command.{Command}
 use Rattle.ts_opening.specs.Engine.{StepFault}
 use Rattle.ts_opening.specs.Engine.{Kept, IsReady}
-use Rattle.ts_generator.specs.declared.generate.Generator.{Generator}
+use Rattle.ts_generator.specs.declared.generator.Generator.{Generator}
 use Rattle.ts_multi.specs.Picks.{drawn}
 use Rattle.ts_generator.specs.Generated.{generated, edits_before}
 use Rattle.ts_generator.specs.Generating.{RanQuietly, IsBehind, IsNextStep, IsUnmade}

@@ -6,7 +6,7 @@ use Rattle.ts_answer.specs.State.{State, replies}
 use Rattle.ts_answer.proofs.CallerLemmas.{length-replies}
 use Rattle.ts_opening.specs.Faults as faults
 use Rattle.ts_opening.specs.Engine.{Kept, IsAt}
-use Rattle.ts_generator.specs.declared.generate.Generator.{Generator}
+use Rattle.ts_generator.specs.declared.generator.Generator.{Generator}
 use Rattle.ts_generator.specs.Generated.{generated}
 use Rattle.ts_generator.specs.Generating.{summary, RanQuietly, IsBehind, OpenedGen}
 use Rattle.ts_generator.proofs.GeneratedLemmas.{length-generated}

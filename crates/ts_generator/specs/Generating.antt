@@ -14,7 +14,7 @@ use Rattle.ts_opening.specs.Faults.{Disk, Memory, Closed}
 use Rattle.ts_volume.specs.Volume.{MeansCatalogue}
 use Rattle.ts_opening.specs.Engine.{Kept, IsReady, IsAt, NothingIsPending}
 use Rattle.ts_opening.specs.Engine.{Stepped}
-use Rattle.ts_generator.specs.declared.generate.Generator.{Generator}
+use Rattle.ts_generator.specs.declared.generator.Generator.{Generator}
 use Rattle.ts_opening.specs.Opening.{OpensStore}
 use Rattle.ts_generator.specs.Generated.{generated, IsNext}
 

@@ -1,7 +1,7 @@
 use Rattle.std.proofs.Common.{arith}
 use Rattle.ts_generator.proofs.ReachedLemmas.{reached_first, reached_ready, reached_few, reached_random, reached_more, reached_stopped}
 use Rattle.ts_generator.proofs.ReachedLemmas.{reached_all}
-use Rattle.ts_generator.proofs.generate.Generator.carry_out_all.Goals as goal
+use Rattle.ts_generator.proofs.generator.Generator.carry_out_all.Goals as goal
 
 pub loop-number-init : goal.loop-number-init
 loop-number-init g c =

@@ -1,9 +1,9 @@
 use Rattle.std.proofs.Common.{◌≡◌, ◌++◌, [], ◌∷◌, List, ℕ, Ok, sym, ◌∙◌, ap, subst}
 use Rattle.ts_opening.specs.Engine.{Stepped}
-use Rattle.ts_generator.specs.declared.generate.Generator.{Generator}
+use Rattle.ts_generator.specs.declared.generator.Generator.{Generator}
 use Rattle.ts_generator.specs.Generating.{IsTally}
 use Rattle.ts_generator.proofs.GeneratingLemmas.{tally_more}
-use Rattle.ts_generator.proofs.generate.Generator.carry_out.Goals as goal
+use Rattle.ts_generator.proofs.generator.Generator.carry_out.Goals as goal
 
 pub returns-in-Ok-clause-stepped : goal.returns-in-Ok-clause-stepped
 returns-in-Ok-clause-stepped g c =

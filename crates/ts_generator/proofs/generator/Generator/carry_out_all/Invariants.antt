@@ -1,6 +1,6 @@
 use Rattle.std.proofs.Common.{◌+◌, ◌-◌, ◌<◌}
 use Rattle.ts_generator.proofs.ReachedLemmas.{HasReached}
-use Rattle.ts_generator.proofs.generate.Generator.carry_out_all.Given as goal
+use Rattle.ts_generator.proofs.generator.Generator.carry_out_all.Given as goal
 
 abbrev pub invariant-loop-number : goal.invariant-loop-number
 invariant-loop-number g l = record {

@@ -1,7 +1,7 @@
 use Rattle.std.proofs.Common.{Result, Ok, Err, OnOk, IfErr, inl, inr}
 use Rattle.ts_generator.specs.Generated.{generated}
 use Rattle.ts_generator.proofs.GeneratingLemmas.{next_step, unmade_now}
-use Rattle.ts_generator.proofs.generate.Generator.carry_out_next.Goals as goal
+use Rattle.ts_generator.proofs.generator.Generator.carry_out_next.Goals as goal
 
 -- what holds anyway holds of a value, and of an error
 on_ok : {T E : Type 0} {P : Type 0} (r : Result T E) → P → OnOk r P

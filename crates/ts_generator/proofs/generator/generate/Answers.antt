@@ -4,7 +4,7 @@ use Rattle.ts_generator.specs.Generated.{generated}
 use Rattle.ts_generator.specs.Generating.{GenRan, OpenedGen}
 use Rattle.ts_generator.proofs.GeneratingLemmas.{behind_none}
 use Rattle.ts_generator.proofs.GenLemmas.{ungenerated, generated_behind}
-use Rattle.ts_generator.proofs.generate.generate.Goals as goal
+use Rattle.ts_generator.proofs.generator.generate.Goals as goal
 
 pub returns-in-Err : goal.returns-in-Err
 returns-in-Err g c =

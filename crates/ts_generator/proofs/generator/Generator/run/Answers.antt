@@ -3,7 +3,7 @@ use Rattle.ts_opening.specs.Engine.{StepFault}
 use Rattle.ts_generator.specs.Generated.{generated}
 use Rattle.ts_generator.specs.Generating.{RanQuietly}
 use Rattle.ts_generator.proofs.SummaryLemmas.{stopped_memory, stopped_disk, unsaid_memory, said_whole, said_not_whole}
-use Rattle.ts_generator.proofs.generate.Generator.run.Goals as goal
+use Rattle.ts_generator.proofs.generator.Generator.run.Goals as goal
 
 pub returns-in-Err-Memory : goal.returns-in-Err-Memory
 returns-in-Err-Memory g c =
