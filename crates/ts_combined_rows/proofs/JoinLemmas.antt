@@ -1,6 +1,7 @@
 -- What two series come to that are seen, by the elements that were read of each.
-use Rattle.std.proofs.Common.{◌≡◌, ℕ, ℤ, Bool, IsTrue, Result, Ok, Err, IsErrAnd, List, [], ◌++◌, refl, ap, sym, subst, ◌∙◌}
+use Rattle.std.proofs.Common.{◌≡◌, ℕ, ℤ, Bool, IsTrue, Result, Ok, Err, Some, IsErrAnd, List, [], ◌++◌, length, refl, ap, sym, subst, ◌∙◌}
 use Rattle.ts_base.specs.declared.fault.Trouble.{Trouble}
+use Rattle.ts_base.specs.declared.refusal.Refusal.{Refusal}
 use Rattle.ts_page.specs.Pages.{Contents}
 use Rattle.ts_row.specs.declared.kind.Column.{Column}
 use Rattle.ts_row.specs.RowType.{Heading}
@@ -11,19 +12,21 @@ use Rattle.ts_sheets.specs.Range.{is_within, within_range}
 use Rattle.ts_pattern.specs.declared.junction.Junction.{Junction}
 use Rattle.ts_pattern.specs.declared.junction.Junction.TheVariants.{And, Or}
 use Rattle.ts_offset.specs.declared.shape.Shape.{Shape}
+use Rattle.ts_offset.specs.declared.shape.Shape.TheVariants.{Irregular, Regular}
 use Rattle.ts_clip.specs.Series.{IsLaidOut, IsTold}
-use Rattle.ts_combine.specs.Combine.{joined}
+use Rattle.ts_combine.specs.Combine.{Side, joined, joined_of, joined_on}
+use Rattle.ts_combine.specs.Call.{HaveNoGrid}
 use Rattle.ts_combine.specs.Series.{IsSeries}
-use Rattle.ts_model.specs.Catalogue.{Series, Catalogue, shape_of}
+use Rattle.ts_model.specs.Catalogue.{Series, Catalogue, columns_of, shape_of}
 use Rattle.ts_layout.specs.Meaning.{Layout, catalogue_of}
-use Rattle.ts_answer.specs.Answer.{Tried, Answered, ◌>>=◌, known, wanted, outcome, carried_out, join_series}
+use Rattle.ts_answer.specs.Answer.{Tried, Answered, ◌>>=◌, known, wanted, outcome, carried_out, join_series, seen_elements}
 use Rattle.ts_answer.specs.Reply.{elements_text}
 use Rattle.ts_answer.specs.declared.stop.Stop.{Stop}
 use Rattle.ts_answer.specs.Stop.{trouble_stop}
 use Rattle.ts_answer.specs.Tried.{IsTried, IsRefusedAs}
 use Rattle.ts_answer.specs.CarriedOut.{ReadOut}
 use Rattle.ts_answer.specs.View.{View, Shows}
-use Rattle.ts_answer.proofs.CallerLemmas.{on_ok, refused_as, said_line}
+use Rattle.ts_answer.proofs.CallerLemmas.{on_ok, on_err, refused_as, said_line}
 use Rattle.ts_shelf.specs.Shelf.{IsShelf}
 use Rattle.ts_shelf.proofs.ReadingLemmas.{then_reads, said_out, trouble_out}
 use Rattle.ts_combined_rows.specs.Combining.{join_of, AreOfSeries, side_with}
@@ -45,6 +48,23 @@ pub second_unknown : (junction : Junction) (key key' : List ℕ) (from to : ℤ)
     → IsRefusedAs trouble (outcome (Ok (join_of junction key key' from to)) cat)
 unfolding join_series
 second_unknown junction key key' from to cat trouble series there is = subst (IsRefusedAs trouble) (sym (joins junction key key' from to cat ∙ on_ok _ series _ there)) (refused_as trouble _ _ is)
+
+-- two series on grids that don't meet, whatever their elements are
+no_grid : (junction : Junction) (a b : Side) (shape shape' : Shape) (from to : ℤ) (why : Refusal) → HaveNoGrid shape shape' why → joined_of junction a b shape shape' from to ≡ Err why
+no_grid junction a b (Regular g) (Regular h) from to why none = ap (joined_on junction a g b h from to) none
+no_grid junction a b (Regular g) Irregular from to why none = absurd none
+no_grid junction a b Irregular (Regular h) from to why none = absurd none
+no_grid junction a b Irregular Irregular from to why none = absurd none
+
+abbrev side_in : Catalogue → Shape → Series → Side
+side_in cat shape series = record { shape = shape; columns = length (columns_of cat series); elements = seen_elements series.elements }
+
+pub joins_nowhere : (junction : Junction) (key key' : List ℕ) (from to : ℤ) (cat : Catalogue) (shape shape' : Shape) (why : Refusal) (one other : Series) → wanted key cat.series ≡ Ok one → wanted key' cat.series ≡ Ok other
+    → shape_of cat one.kind ≡ Some shape → shape_of cat other.kind ≡ Some shape' → HaveNoGrid shape shape' why → outcome (Ok (join_of junction key key' from to)) cat ≡ Err why
+unfolding join_series
+joins_nowhere junction key key' from to cat shape shape' why one other there there' lies lies' none =
+    joins junction key key' from to cat ∙ on_ok _ one _ there ∙ on_ok _ other _ there' ∙ on_ok (known (shape_of cat one.kind)) shape _ (ap known lies) ∙ on_ok (known (shape_of cat other.kind)) shape' _ (ap known lies')
+    ∙ on_err _ why _ (no_grid junction (side_in cat shape one) (side_in cat shape' other) shape shape' from to why none)
 
 module _ (cat : Catalogue) (key key' : List ℕ) (shape shape' : Shape) (columns columns' : List Column) (es fs : List Element) (one : IsSide cat key shape columns es) (other : IsSide cat key' shape' columns' fs) (junction : Junction) (from to : ℤ) where
   join_comes : outcome (Ok (join_of junction key key' from to)) cat

@@ -1,8 +1,11 @@
+pub mod CalendarLemmas
 pub mod EachSeriesLemmas
 pub mod GatheredLemmas
 pub mod InOrderLemmas
 pub mod JoinLemmas
 pub mod LagLemmas
+pub mod MovedLemmas
+pub mod PlacedLemmas
 pub mod SaidRowsLemmas
 pub mod SeenSideLemmas
 pub mod SideLemmas

@@ -47,11 +47,15 @@ module _ (tells : Bool) (x : View) (l : Layout) (told : IsTrue tells) (shows : S
         has = tested (λ (e : Element). not e.1.hidden) shape h.columns all.0 (on_pages shape slot h.columns x.pages.page (places_of slot x.space) all.0 all.1.order all.1.have);
       }
 
-  pub kept_seen : (v : Contents) (from to : ℤ) (kept : List Element) → EqualPages x.pages.page v.page → IsTold tells shape slot h.columns (places_of slot x.space) v (λ es. kept ≡ within_range from to (seen es)) → kept ≡ within_range from to seen_es
+  -- what is told of the elements that aren't hidden holds of those that are seen
+  pub told_seen : (v : Contents) (Holds : List Element → Type 0) → EqualPages x.pages.page v.page → IsTold tells shape slot h.columns (places_of slot x.space) v (λ es. Holds (seen es)) → Holds seen_es
   unfolding seen_es
-  kept_seen v from to kept same read =
+  told_seen v Holds same read =
       let all = elements_seen tells x l shape laid slot h told shows found.columns found.lies found.named.within in
       read told all.0 (subst (λ (p : ℕ → List ℕ). HaveElements shape slot h.columns p (places_of slot x.space) all.0) (sym (λ i k. same k i)) all.1.have)
+
+  pub kept_seen : (v : Contents) (from to : ℤ) (kept : List Element) → EqualPages x.pages.page v.page → IsTold tells shape slot h.columns (places_of slot x.space) v (λ es. kept ≡ within_range from to (seen es)) → kept ≡ within_range from to seen_es
+  kept_seen v from to kept same read = told_seen v (λ es. kept ≡ within_range from to es) same read
 
 -- a test and what follows it, as one
 pub tried_then : {A B D : Type 0} (r : Result A Trouble) (tried : Tried B) (f : B → Tried D) (Alike : A → B → Type 0) (Like : A → D → Type 0) → IsTried r tried Alike → ((a : A) (b : B) → Alike a b → (d : D) × (f b ≡ Ok d) × Like a d)

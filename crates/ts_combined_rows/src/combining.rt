@@ -2,9 +2,7 @@
 ghost use Rattle.std.specs.Prelude.{◌≡◌, ◌++◌, ℕ, List, []};
 ghost use Rattle.ts_command.specs.declared.command.Command.TheVariants.{Lag};
 ghost use Rattle.ts_space.specs.Directory.{places_of};
-ghost use Rattle.ts_clip.specs.Series.{IsLaidOut};
 ghost use Rattle.ts_combine.specs.Combine.{joined};
-ghost use Rattle.ts_combine.specs.Lag.{lagged};
 ghost use Rattle.ts_answer.specs.Reply.{elements_text};
 ghost use Rattle.ts_answer.specs.Tried.{IsTried};
 ghost use Rattle.ts_answer.specs.View.{view, IsSeen};
@@ -12,11 +10,12 @@ ghost use Rattle.ts_answer.specs.CarriedOut.{ReadOut};
 ghost use Rattle.ts_shelf.specs.Shelf.{IsShelf};
 ghost use Rattle.ts_combined_rows.specs.Combining.{join_of, AreOfSeries, IsReadable, IsThere, side_with};
 
-use crate::rows::{rows_of, say_moved, say_rows};
-use crate::sides::{elements_in, greatest_stamp, side_of};
+use crate::moved::moved_rows;
+use crate::rows::{rows_of, say_rows};
+use crate::sides::{elements_in, no_common_grid, side_of};
 use std::alloc::Global;
 use ts_answer::Stop;
-use ts_base::{Key, Refusal, Reply, Stamp, Trouble};
+use ts_base::{Key, Reply, Stamp, Trouble};
 use ts_combine::{elements_outside_play_no_part, first_needed};
 use ts_entry::KeptElements;
 use ts_model::Defs;
@@ -24,13 +23,14 @@ use ts_offset::Shape;
 use ts_page::{Page, Pages};
 use ts_pattern::Junction;
 use ts_row::Shelf;
+use ts_say::{EntryLines, say_count};
 use ts_shelf::shelf_of;
 use ts_space::Space;
 
 /// Says two series as one, from one stamp to another, both included: rows with the columns of both. Keys that no series
 /// has are refused first; UnitMismatch and NotAligned where both are regular and have no grid in common, TooLarge where
-/// the rows are more than 1000000. `page` is room to read one; the memory is for the elements that are needed and for
-/// the rows.
+/// the rows are more than 1000000; of these TooLarge alone is told by elements, which are read before. `page` is room
+/// to read one; the memory is for the elements that are needed and for the rows.
 pub fn join<P: Pages>(
     alloc: Global,
     pages: &mut P,
@@ -57,7 +57,8 @@ pub fn join<P: Pages>(
     )
 }
 
-// Says them, once both are known: the elements of each that are needed are read, then combined.
+// Says them, once both are known: where they have no grid in common, no element is read; else those of each that are
+// needed are read, then combined.
 fn join_on<P: Pages>(
     alloc: Global,
     pages: &mut P,
@@ -84,6 +85,9 @@ fn join_on<P: Pages>(
         (P.contents pages.new) }
     ensures undisturbed { P.undisturbed pages.old pages.new }
 {
+    if let Some(why) = no_common_grid(defs, first, second) {
+        return Err(Stop::Refused(why));
+    }
     let (shelf, shape) = first;
     let low = first_needed(shape, from);
     let ones = elements_in(alloc, pages, page, space, shelf, shape, low, to)?;
@@ -129,11 +133,10 @@ fn say_series_joined(
 }
 
 /// Says the elements of a regular series, each at the on start so many behind its own, up to the last element; a
-/// negative number leads to earlier on starts. A key that no series has is refused, then an irregular series as
-/// NotRegular, whose pages aren't read; TooLarge where the rows are more than 1000000. `page` is room to read one; the
-/// memory is for the elements and for the rows.
+/// negative number leads to earlier on starts. A key that no series has is refused first, then an irregular series as
+/// NotRegular, whose pages aren't read; TooLarge where the rows are more than 1000000, and some lines stand in the
+/// reply by then. `page` is room to read one; an element is said as soon as it is read, and none is kept.
 pub fn lag<P: Pages>(
-    alloc: Global,
     pages: &mut P,
     page: &mut Page,
     defs: &Defs,
@@ -149,57 +152,12 @@ pub fn lag<P: Pages>(
         (P.contents pages.new) }
     ensures undisturbed { P.undisturbed pages.old pages.new }
 {
-    let found = shelf_of(pages, defs, space, key)?;
-    lag_on(alloc, pages, page, defs, space, &found, by, out)
-}
-
-// Says them, once the series is known.
-fn lag_on<P: Pages>(
-    alloc: Global,
-    pages: &mut P,
-    page: &mut Page,
-    defs: &Defs,
-    space: &Space,
-    found: &(Shelf<'_>, Shape<'_>),
-    by: i64,
-    out: &mut Reply,
-) -> Result<(), Stop>
-    requires readable { IsReadable found.now.1 found.now.0.series found.now.0.kind.now.columns defs.now.definitions
-        (places_of found.now.0.series space.now) (P.contents pages.old) }
-    requires empty { out.old ≡ [] }
-    ensures read { (key : List ℕ) → IsShelf found.now.1 found.now.0.series found.now.0.kind.now key defs.now.definitions
-        → ReadOut P.tells (Lag key by) result out.new (view defs.now.definitions space.now (P.contents pages.old))
-        (P.contents pages.new) }
-    ensures undisturbed { P.undisturbed pages.old pages.new }
-{
-    let (shelf, shape) = found;
-    let Shape::Regular(grid) = shape else {
-        return Err(Stop::Refused(Refusal::NotRegular));
-    };
-    let from = grid.origin();
-    let to = greatest_stamp();
-    let kept = elements_in(alloc, pages, page, space, shelf, shape, from, to)?;
-    say_series_lagged(alloc, defs, found, &kept, by, out)?;
-    Ok(())
-}
-
-// Says a series against itself, by its elements.
-fn say_series_lagged(
-    alloc: Global,
-    defs: &Defs,
-    found: &(Shelf<'_>, Shape<'_>),
-    kept: &KeptElements,
-    by: i64,
-    out: &mut Reply,
-) -> Result<(), Trouble>
-    requires there { IsThere found.now.1 found.now.0.series defs.now.definitions }
-    requires laid { IsLaidOut found.now.1 }
-    ensures { AreOfSeries found.now.1 found.now.0.kind.now.columns kept.now
-        → IsTried result (lagged found.now.1 by kept.now)
-        (λ said rows. out.new ≡ out.old ++ elements_text found.now.0.kind.now.columns rows) }
-{
-    let side = side_of(defs, &found.0, &found.1, kept);
-    let rows = ts_combine::lag(alloc, &side, by)?;
-    say_moved(out, found.0.kind, side.elems, &rows)?;
+    let (shelf, shape) = shelf_of(pages, defs, space, key)?;
+    let mut lines = EntryLines::behind(out);
+    let done = moved_rows(pages, page, space, &shelf, &shape, by, &mut lines)?;
+    match done {
+        Ok(count) => say_count(out, count)?,
+        Err(refusal) => return Err(Stop::Refused(refusal)),
+    }
     Ok(())
 }

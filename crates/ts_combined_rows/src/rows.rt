@@ -1,19 +1,18 @@
 // What is said of series that are combined: their rows, each in a line, and how many they are.
-ghost use Rattle.std.specs.Prelude.{◌≡◌, ◌<◌, ◌++◌, OnOk, All, map, length};
+ghost use Rattle.std.specs.Prelude.{◌≡◌, ◌++◌, OnOk, map, length};
 ghost use Rattle.std.specs.Option.{option_copied};
 ghost use Rattle.ts_combine.specs.Combine.{joined};
 ghost use Rattle.ts_combine.specs.Series.{side_of, elements_in, IsSeries, HasCalendar};
 ghost use Rattle.ts_combine.specs.Call.{AnswersRows, joined_row, row_at};
-ghost use Rattle.ts_combine.specs.Moved.{lagged_row};
 ghost use Rattle.ts_answer.specs.Reply.{elements_text};
 ghost use Rattle.ts_combined_rows.specs.Combining.{AllFit};
 
 use std::alloc::{AllocError, Global};
 use ts_base::{Reply, Stamp, Trouble};
-use ts_combine::{Joined, Lagged, Side, intersect, union};
+use ts_combine::{Joined, Side, intersect, union};
 use ts_pattern::Junction;
 use ts_row::{Elem, Row, RowType};
-use ts_say::{DayText, say_count, say_joined, say_line};
+use ts_say::{DayText, say_count, say_joined};
 
 /// The rows of two series as one, from one stamp to another.
 pub(crate) fn rows_of(
@@ -64,24 +63,6 @@ pub(crate) fn say_rows(
             one,
             other,
         )?;
-    }
-    say_count(out, rows.len() as u64)
-}
-
-/// Says elements at other stamps than their own, each in a line, and how many they are.
-pub(crate) fn say_moved(
-    out: &mut Reply,
-    kind: &RowType,
-    elems: &[Elem],
-    rows: &[Lagged],
-) -> Result<(), AllocError>
-    requires { All (λ l. l.index < length elems.now) rows.now }
-    ensures { OnOk result (out.new ≡ out.old
-        ++ elements_text kind.now.columns (map (lagged_row (elements_in elems.now)) rows.now)) }
-{
-    let mut day = DayText::first();
-    for row in rows {
-        say_line(out, &mut day, kind, row.stamp, &elems[row.index].row)?;
     }
     say_count(out, rows.len() as u64)
 }

@@ -205,7 +205,7 @@ pub(crate) fn combine<P: Pages>(
                 alloc, pages, page, defs, space, both, first, second, *from, *to, out,
             )
         }
-        Command::Lag { key, by } => lag(alloc, pages, page, defs, space, key, *by, out),
+        Command::Lag { key, by } => lag(pages, page, defs, space, key, *by, out),
         _ => return None,
     };
     Some(came)
