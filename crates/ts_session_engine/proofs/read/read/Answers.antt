@@ -1,5 +1,5 @@
 use Rattle.std.specs.Prelude.{reverse}
-use Rattle.std.proofs.Common.{◌≡◌, List, [], ◌++◌, ℕ, Ok, Err, ap, sym, ◌∙◌, subst}
+use Rattle.std.proofs.Common.{◌≡◌, List, [], ◌++◌, ℕ, Ok, ap, sym, ◌∙◌, subst}
 use Rattle.ts_answer.specs.declared.stop.Stop.{Stop}
 use Rattle.ts_answer.specs.Reply.{refusal_line}
 use Rattle.ts_answer.specs.CarriedOut.{IsStopped}
