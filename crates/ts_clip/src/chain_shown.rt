@@ -15,6 +15,9 @@ use ts_page::{Page, Pages};
 use ts_row::Shelf;
 use ts_space::Place;
 
+/// How many places are passed over at once.
+const BLOCK: usize = 64;
+
 /// From which page on the element of a number is looked for, and its number there: from its own page, where no element
 /// is hidden; else from the first one.
 pub(crate) fn page_of_number(places: &[Place], n: u64, shown: bool) -> (usize, u64)
@@ -25,9 +28,9 @@ pub(crate) fn page_of_number(places: &[Place], n: u64, shown: bool) -> (usize, u
     if !shown {
         return (0, n);
     }
-    let mut left = n;
-    let mut index = 0;
-    for place in places {
+    let (start, mut left) = block_of_number(places, n);
+    let mut index = start;
+    for place in &places[start..] {
         let count = u64::from(place.count);
         if left < count {
             return (index, left);
@@ -36,6 +39,36 @@ pub(crate) fn page_of_number(places: &[Place], n: u64, shown: bool) -> (usize, u
         index += 1;
     }
     (index, left)
+}
+
+// From which place on it is looked for, with whole blocks of places passed over, and its number there.
+fn block_of_number(places: &[Place], n: u64) -> (usize, u64)
+    ensures within { result.0 ≤ length places.now }
+    ensures number { count_of (take result.0 places.now) + result.1 ≡ n }
+{
+    let mut left = n;
+    let mut passed = 0;
+    while places.len() - passed > BLOCK {
+        let many = count_block(&places[passed..passed + BLOCK]);
+        if left < many {
+            return (passed, left);
+        }
+        left -= many;
+        passed += BLOCK;
+    }
+    (passed, left)
+}
+
+// How many elements a block of places tells of.
+fn count_block(block: &[Place]) -> u64
+    requires { length block.now ≤ 64 }
+    ensures { result ≡ count_of block.now }
+{
+    let mut count = 0_u64;
+    for place in block {
+        count += u64::from(place.count);
+    }
+    count
 }
 
 /// How many elements of a range stand on the pages of the places that hold it, none of them hidden, as far as a counter
@@ -71,8 +104,10 @@ fn count_places(places: &[Place]) -> u64
     ensures { result ≡ min (count_of places.now) (2 ^ 64 - 1) }
 {
     let mut count = 0_u64;
-    for place in places {
-        count = count.saturating_add(u64::from(place.count));
+    let mut passed = 0;
+    while places.len() - passed > BLOCK {
+        count = count.saturating_add(count_block(&places[passed..passed + BLOCK]));
+        passed += BLOCK;
     }
-    count
+    count.saturating_add(count_block(&places[passed..]))
 }

@@ -5,6 +5,6 @@ use Rattle.ts_clip.proofs.chain_shown.page_of_number.Given as goal
 
 abbrev pub invariant-loop-place : goal.invariant-loop-place
 invariant-loop-place l = record {
-  here : l.index ≡ l.place-index;
-  counted : count_of (take l.place-index l.places) + l.left ≡ l.n;
+  here : l.index ≡ l.start + l.place-index;
+  counted : count_of (take l.index l.places) + l.left ≡ l.n;
 }
