@@ -40,7 +40,7 @@ module _ (size : NumberSize) (sought : Bool) (cells : Cells) (left : ℕ) (bytes
         (gathered (count + 1) h.sum h.least h.greatest) z (map (number_of_size size) (found_in cells.position left bytes))
         (map (number_of_size size) (found_in cells.position (left - 1) rest)) was.gathered
         (ap (map (number_of_size size)) split ∙ ap (λ (x : ℤ). x ∷ map (number_of_size size) (found_in cells.position (left - 1) rest)) (sym is))
-        (omega (arith, ints, short)) (omega (arith, ints, short)) refl (λ near. sum) least greatest;
+        (omega (arith, ints, short)) (omega (arith, ints, short)) refl (λ digits near. sum) least greatest;
   } where
     split : found_in cells.position left bytes ≡ bytes_of cells.position cell ∷ found_in cells.position (left - 1) rest
     split = first_of cells.position left bytes cell rest some front back

@@ -149,7 +149,7 @@ greatest_more top (suc n) kept z first within = greater_is kept z
 -- one more is gathered
 pub more_gathered : (top : ℕ) (all : List ℤ) (sought : Bool) (g h : Gathered) (z : ℤ) (left zs : List ℤ) → SoFar top all sought g left → left ≡ z ∷ zs
     → z ≤ℤ pos top → negsuc top ≤ℤ z
-    → h.count ≡ g.count + 1 → (unsigned_abs z < 2 ^ 94 → h.sum ≡ g.sum +ℤ z)
+    → h.count ≡ g.count + 1 → (unsigned_abs g.sum ≤ g.count * 10 ^ 28 → unsigned_abs z < 2 ^ 94 → h.sum ≡ g.sum +ℤ z)
     → (IsTrue sought → h.least ≡ int_min g.least z) → (IsTrue sought → h.greatest ≡ int_max g.greatest z)
     → SoFar top all sought h zs
 more_gathered top all sought g h z left zs was split high low count sum least greatest = record {
@@ -158,9 +158,9 @@ more_gathered top all sought g h z left zs was split high low count sum least gr
   digits = λ small.
       let digits = was.digits small in
       let near = is_near small in
-      let more = sum (omega (arith, near, top_small)) in
+      let more = sum digits (omega (arith, near, top_small)) in
       omega (arith, ints, digits, near, more, count);
-  sum = λ small. ap (λ (x : ℤ). fold ◌+ℤ◌ x zs) (sum (omega (arith, is_near small, top_small))) ∙ ap (fold ◌+ℤ◌ g.sum) (sym split) ∙ was.sum small;
+  sum = λ small. ap (λ (x : ℤ). fold ◌+ℤ◌ x zs) (sum (was.digits small) (omega (arith, is_near small, top_small))) ∙ ap (fold ◌+ℤ◌ g.sum) (sym split) ∙ was.sum small;
   first_least = λ none. absurd (omega (arith, none, count));
   first_greatest = λ none. absurd (omega (arith, none, count));
   least = λ yes_.

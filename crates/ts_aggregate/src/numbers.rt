@@ -18,9 +18,6 @@ pub(crate) const MOST_FOLDED: u64 = 4_294_967_296;
 /// A number of 29 digits.
 const TOO_LONG: u128 = 10_000_000_000_000_000_000_000_000_000;
 
-/// 2^94: no number of at most 28 digits is as large, and of numbers that aren't, those of a page have a sum.
-const FAR: i128 = 19_807_040_628_566_084_398_385_987_584;
-
 /// What is known of the numbers of a column in some cells.
 #[derive(Clone, Copy)]
 pub(crate) struct Totals {
@@ -268,37 +265,21 @@ fn long_totals(cells: Cells<'_>, size: NumberSize, sought: bool, is_first: bool)
     totals_gathered(so_far, sought)
 }
 
-// With one number more.
+// With one number more. The sum of numbers that a column may hold doesn't wrap.
 #[inline(always)]
 fn with_number(so_far: Gathered, number: i128, sought: bool) -> Gathered
     requires few { so_far.count < 4064 }
-    requires room { unsigned_abs so_far.sum ≤ so_far.count * 2 ^ 94 }
     ensures count { result.count ≡ so_far.count + 1 }
-    ensures room { unsigned_abs result.sum ≤ result.count * 2 ^ 94 }
-    ensures sum { unsigned_abs number < 2 ^ 94 → result.sum ≡ so_far.sum +ℤ number }
+    ensures sum { unsigned_abs so_far.sum ≤ so_far.count * 10 ^ 28 → unsigned_abs number < 2 ^ 94
+        → result.sum ≡ so_far.sum +ℤ number }
     ensures least { IsTrue sought → result.least ≡ int_min so_far.least number }
     ensures greatest { IsTrue sought → result.greatest ≡ int_max so_far.greatest number }
 {
     Gathered {
         count: so_far.count + 1,
-        sum: with_summand(so_far.count, so_far.sum, number),
+        sum: so_far.sum.wrapping_add(number),
         least: lesser_if(sought, so_far.least, number),
         greatest: greater_if(sought, so_far.greatest, number),
-    }
-}
-
-// The sum of so many numbers with one more, unless no column may hold it.
-#[inline(always)]
-fn with_summand(count: u64, sum: i128, number: i128) -> i128
-    requires few { count < 4064 }
-    requires room { unsigned_abs sum ≤ count * 2 ^ 94 }
-    ensures room { unsigned_abs result ≤ (count + 1) * 2 ^ 94 }
-    ensures sum { unsigned_abs number < 2 ^ 94 → result ≡ sum +ℤ number }
-{
-    if -FAR <= number && number < FAR {
-        sum + number
-    } else {
-        sum
     }
 }
 

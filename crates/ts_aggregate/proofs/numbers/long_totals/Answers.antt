@@ -11,12 +11,11 @@ use Rattle.ts_aggregate.proofs.numbers.long_totals.Goals as goal
 pub loop-left-init : goal.loop-left-init
 loop-left-init c = record {
   whole = c.requires.whole;
-  room = omega arith;
   gathered = none_gathered (2 ^ 127 - 1) (sized_numbers c.args.size c.args.cells) c.args.sought;
 }
 
-pub with_number-so_far-requires-clause-few : goal.with_number-so_far-requires-clause-few
-with_number-so_far-requires-clause-few c =
+pub with_number-so_far-requires : goal.with_number-so_far-requires
+with_number-so_far-requires c =
     let s = c.args.cells.position in
     let left : ℕ = c.loop-left.left in
     let bytes : List ℕ = c.loop-left.bytes.now in
@@ -74,7 +73,6 @@ loop-left-preserved-then-has_value_at c =
         whole = one_less left s.size (length bytes) (length rest) some i.whole.whole
             (omega (arith, c.split_at.ensures.back_len, one_fits left s.size (length bytes) some i.whole.whole));
       };
-      room = e.room;
       gathered = more_gathered (2 ^ 127 - 1) (sized_numbers c.args.size c.args.cells) c.args.sought (gathered was.count was.sum was.least was.greatest)
           (gathered now.count now.sum now.least now.greatest) z (map (number_of_size c.args.size) (found_in s left bytes))
           (map (number_of_size c.args.size) (found_in s (left - 1) rest)) i.gathered
@@ -102,7 +100,6 @@ loop-left-preserved c =
         whole = one_less left s.size (length bytes) (length rest) some i.whole.whole
             (omega (arith, c.split_at.ensures.back_len, one_fits left s.size (length bytes) some i.whole.whole));
       };
-      room = i.room;
       gathered = subst (λ (l : List (List ℕ)). SoFar (2 ^ 127 - 1) (sized_numbers c.args.size c.args.cells) c.args.sought
           (gathered was.count was.sum was.least was.greatest) (map (number_of_size c.args.size) l)) same i.gathered;
     }

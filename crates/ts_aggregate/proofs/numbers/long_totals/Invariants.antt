@@ -1,5 +1,5 @@
 -- Those gathered and those that are left are all.
-use Rattle.std.proofs.Common.{◌-◌, ◌*◌, ◌^◌, ◌≤◌, unsigned_abs, map}
+use Rattle.std.proofs.Common.{◌-◌, ◌^◌, map}
 use Rattle.ts_aggregate.specs.Column.{found_in, AreCells}
 use Rattle.ts_aggregate.specs.Totals.{number_of_size, sized_numbers}
 use Rattle.ts_aggregate.proofs.TotalsLemmas.{SoFar}
@@ -8,7 +8,6 @@ use Rattle.ts_aggregate.proofs.numbers.long_totals.Given as goal
 abbrev pub invariant-loop-left : goal.invariant-loop-left
 invariant-loop-left l = record {
   whole : AreCells l.cells.position l.left l.bytes;
-  room : unsigned_abs l.so_far.sum ≤ l.so_far.count * 2 ^ 94;
   gathered : SoFar (2 ^ 127 - 1) (sized_numbers l.size l.cells) l.sought l.so_far (map (number_of_size l.size) (found_in l.cells.position l.left l.bytes));
 }
 
