@@ -1,8 +1,13 @@
+pub mod CalendarLemmas
+pub mod CutLemmas
 pub mod EachSeriesLemmas
 pub mod GatheredLemmas
 pub mod InOrderLemmas
 pub mod JoinLemmas
 pub mod LagLemmas
+pub mod MovedLemmas
+pub mod PairLemmas
+pub mod PlacedLemmas
 pub mod SaidRowsLemmas
 pub mod SeenSideLemmas
 pub mod SideLemmas

@@ -3,20 +3,17 @@ use Rattle.std.proofs.Common.{◌≡◌, ℕ, ℤ, ◌+◌, ◌<◌, ◌≤◌, 
 use Rattle.std.specs.Prelude.{slice_get}
 use Rattle.std.specs.Borrow.{Bor}
 use Rattle.std.specs.List.{flat_map}
-use Rattle.std.specs.Option.{option_map, option_copied, unwrap_or}
+use Rattle.std.specs.Option.{option_map, option_copied}
 use Rattle.std.proofs.lemmas.List.{map_more, take_all, length-map}
 use Rattle.std.proofs.lemmas.List.Concat.{flat_map-append}
-use Rattle.std.proofs.lemmas.Option.{slice_get_within, slice_get-get_or, slice_get-map, get_or_from_slice_get}
+use Rattle.std.proofs.lemmas.Option.{slice_get_within, get_or_from_slice_get}
 use Rattle.ts_row.specs.declared.kind.Column.{Column}
-use Rattle.ts_row.specs.declared.row.Elem.{Elem}
 use Rattle.ts_row.specs.Row.{Row, fits, visible}
 use Rattle.ts_row.specs.Element.{Element}
 use Rattle.ts_combine.specs.Combine.{values_or_nulls}
-use Rattle.ts_combine.specs.Series.{elements_in}
 use Rattle.ts_combine.specs.Call.{row_at}
-use Rattle.ts_combine.specs.Moved.{lagged_row}
-use Rattle.ts_combine.specs.declared.joined.Lagged.{Lagged}
-use Rattle.ts_answer.specs.Reply.{element_line, elements_text, count_line}
+use Rattle.ts_entry.specs.Entry.{filled}
+use Rattle.ts_answer.specs.Reply.{element_line, elements_text, entry_line, count_line}
 use Rattle.ts_combined_rows.specs.Combining.{AllFit}
 
 -- one more
@@ -29,14 +26,10 @@ said_more line f rows i row begun out after below is said one =
     ∙ flat_map-append line (map f (take i rows)) (f row ∷ []) ∙ ap (λ l. front ++ l) (append-nil (line (f row))) in
     one ∙ ap (λ l. l ++ line (f row)) said ∙ append_assoc begun front (line (f row)) ∙ ap (λ l. begun ++ l) (sym lines)
 
--- all of them, and how many they are
-pub said_all : {T : Type 0} (columns : List Column) (f : T → Element) (rows : List T) (i : ℕ) (begun out after : List ℕ) → length rows ≤ i → out ≡ begun ++ flat_map (element_line columns) (map f (take i rows))
-    → after ≡ out ++ count_line (length rows) → after ≡ begun ++ elements_text columns (map f rows)
-unfolding elements_text
-said_all columns f rows i begun out after past said count =
-    let lines = flat_map (element_line columns) (map f rows) in
-    let all : out ≡ begun ++ lines = said ∙ ap (λ r. begun ++ flat_map (element_line columns) (map f r)) (take_all i rows past) in
-    count ∙ ap (λ l. l ++ count_line (length rows)) all ∙ ap (λ n. (begun ++ lines) ++ count_line n) (sym (length-map rows f)) ∙ append_assoc begun lines (count_line (length (map f rows)))
+-- all of them
+pub said_all : {T : Type 0} (line : Element → List ℕ) (f : T → Element) (rows : List T) (i : ℕ) (begun out : List ℕ) → length rows ≤ i → out ≡ begun ++ flat_map line (map f (take i rows))
+    → out ≡ begun ++ flat_map line (map f rows)
+said_all line f rows i begun out past said = said ∙ ap (λ r. begun ++ flat_map line (map f r)) (take_all i rows past)
 
 fits_at : (columns : List Column) (es : List Element) (i : ℕ) (found : Option Element) (r : Row) → slice_get es i ≡ found → option_map (λ (e : Element). e.1) found ≡ Some r → AllFit columns es → IsTrue (fits columns r)
 fits_at columns es i None r at is all = absurd (cc)
@@ -58,9 +51,17 @@ joined_line line stamp m n a b x y x' y' out after said first second one other =
     let right : n ≡ b = sym second in
     said ∙ (λ i. out ++ line (stamp, visible (values_or_nulls (left i) (one i) ++ values_or_nulls (right i) (other i))))
 
--- the line of an element at another stamp, found by its index
-pub moved_line : (line : Element → List ℕ) (elems : List Elem) (l : Lagged) (d : Elem) (out after : List ℕ) → l.index < length elems → after ≡ out ++ line (l.stamp, (get_or elems l.index d).row) → after ≡ out ++ line (lagged_row (elements_in elems) l)
-moved_line line elems l d out after below said =
-    let e = get_or elems l.index d in
-    let at : slice_get (elements_in elems) l.index ≡ Some (e.stamp, e.row) = slice_get-map (λ x. (x.stamp, x.row)) elems l.index ∙ ap (option_map (λ x. (x.stamp, x.row))) (slice_get-get_or elems l.index d below) in
-    said ∙ ap (λ (o : Option Element). out ++ line (l.stamp, unwrap_or (option_map (λ x. x.1) o) (visible []))) (sym at)
+-- the lines of entries that have an element each
+entry_lines : (columns : List Column) (rows : List Element) → flat_map (entry_line columns) (map filled rows) ≡ flat_map (element_line columns) rows
+unfolding entry_line element_line
+entry_lines columns [] = refl
+entry_lines columns (e ∷ rows) = ap (λ (l : List ℕ). element_line columns e ++ l) (entry_lines columns rows)
+
+-- Such lines behind nothing, and their number: what is said once the lines are no longer borrowed.
+pub entries_said : {Name : Type 0} (columns : List Column) (rows : List Element) (empty begun ended given after : List ℕ) (count : ℕ) (name first last : Name) → empty ≡ [] → begun ≡ empty → first ≡ name
+    → (last ≡ first) × (ended ≡ begun ++ flat_map (entry_line columns) (map filled rows)) → count ≡ length rows → after ≡ given ++ count_line count → (name ≡ last → given ≡ ended) → after ≡ elements_text columns rows
+unfolding elements_text
+entries_said columns rows empty begun ended given after count name first last none begins same took number counted back =
+    let lines : given ≡ flat_map (element_line columns) rows =
+    back (sym (took.0 ∙ same)) ∙ took.1 ∙ ap (λ (b : List ℕ). b ++ flat_map (entry_line columns) (map filled rows)) (begins ∙ none) ∙ entry_lines columns rows in
+    counted ∙ (λ i. lines i ++ count_line (number i))

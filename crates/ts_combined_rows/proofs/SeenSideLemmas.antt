@@ -1,5 +1,5 @@
 -- A series as it is seen, as one that is combined, by what was read of it.
-use Rattle.std.proofs.Common.{◌≡◌, ℕ, ℤ, Bool, not, IsTrue, Result, Ok, Err, Some, List, ap, sym, subst, ◌∙◌}
+use Rattle.std.proofs.Common.{◌≡◌, ℕ, ℤ, Bool, not, IsTrue, Result, Ok, Err, Some, List, refl, ap, sym, subst, ◌∙◌}
 use Rattle.ts_base.specs.declared.fault.Trouble.{Trouble}
 use Rattle.ts_page.specs.Pages.{Contents, EqualPages}
 use Rattle.ts_row.specs.declared.kind.Column.{Column}
@@ -47,16 +47,16 @@ module _ (tells : Bool) (x : View) (l : Layout) (told : IsTrue tells) (shows : S
         has = tested (λ (e : Element). not e.1.hidden) shape h.columns all.0 (on_pages shape slot h.columns x.pages.page (places_of slot x.space) all.0 all.1.order all.1.have);
       }
 
-  pub kept_seen : (v : Contents) (from to : ℤ) (kept : List Element) → EqualPages x.pages.page v.page → IsTold tells shape slot h.columns (places_of slot x.space) v (λ es. kept ≡ within_range from to (seen es)) → kept ≡ within_range from to seen_es
+  -- they are those of elements that the pages have
+  pub seen_told : (es : List Element) × HaveElements shape slot h.columns x.pages.page (places_of slot x.space) es × (seen_es ≡ seen es)
   unfolding seen_es
-  kept_seen v from to kept same read =
+  seen_told =
+      let all = elements_seen tells x l shape laid slot h told shows found.columns found.lies found.named.within in
+      (all.0, all.1.have, refl)
+
+  -- what is told of the elements that aren't hidden holds of those that are seen
+  pub told_seen : (v : Contents) (Holds : List Element → Type 0) → EqualPages x.pages.page v.page → IsTold tells shape slot h.columns (places_of slot x.space) v (λ es. Holds (seen es)) → Holds seen_es
+  unfolding seen_es
+  told_seen v Holds same read =
       let all = elements_seen tells x l shape laid slot h told shows found.columns found.lies found.named.within in
       read told all.0 (subst (λ (p : ℕ → List ℕ). HaveElements shape slot h.columns p (places_of slot x.space) all.0) (sym (λ i k. same k i)) all.1.have)
-
--- a test and what follows it, as one
-pub tried_then : {A B D : Type 0} (r : Result A Trouble) (tried : Tried B) (f : B → Tried D) (Alike : A → B → Type 0) (Like : A → D → Type 0) → IsTried r tried Alike → ((a : A) (b : B) → Alike a b → (d : D) × (f b ≡ Ok d) × Like a d)
-    → IsTried r (tried >>= f) Like
-tried_then (Ok a) tried f Alike Like is then =
-    let next = then a is.ok.0 is.ok.2 in
-    record { ok = (next.0, on_ok tried is.ok.0 f is.ok.1 ∙ next.1, next.2); err = tt }
-tried_then (Err trouble) tried f Alike Like is then = record { ok = tt; err = refused_as trouble tried f is.err }

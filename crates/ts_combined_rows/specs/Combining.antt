@@ -1,14 +1,19 @@
 -- Series as they are combined: what is said of them takes for granted what pages that are told have.
-use Rattle.std.specs.Prelude.{◌≡◌, ℕ, ◌<◌, ℤ, IsTrue, Some, All, List, length}
+use Rattle.std.specs.Prelude.{◌≡◌, ℕ, ◌<◌, ◌^◌, ℤ, IsTrue, Some, Ok, All, List, length}
 use Rattle.ts_page.specs.Pages.{Contents}
 use Rattle.ts_space.specs.declared.place.Place.{Place}
+use Rattle.ts_space.specs.Place.{IsRising, count_of}
 use Rattle.ts_clip.specs.Series.{ArePlaces, IsLaidOut}
 use Rattle.ts_model.specs.Definitions.{Definitions, series_slots}
 use Rattle.ts_layout.specs.Meaning.{shape_at}
 use Rattle.ts_row.specs.declared.kind.Column.{Column}
 use Rattle.ts_row.specs.Row.{fits}
 use Rattle.ts_row.specs.Element.{Element}
+use Rattle.ts_calendar.specs.declared.grid.CommonGrid.{CommonGrid}
+use Rattle.ts_calendar.specs.Calendar.{common_grid}
+use Rattle.ts_calendar.specs.Intervals.{IsEarly}
 use Rattle.ts_offset.specs.declared.shape.Shape.{Shape}
+use Rattle.ts_offset.specs.declared.shape.Shape.TheVariants.{Irregular, Regular}
 use Rattle.ts_combine.specs.Combine.{Side}
 use Rattle.ts_combine.specs.Series.{IsSeries}
 use Rattle.ts_command.specs.declared.command.Command.{Command}
@@ -41,6 +46,16 @@ pub record IsReadable (shape : Shape) (slot : ℕ) (columns : List Column) (d : 
   pub there : IsThere shape slot d
   pub laid : IsLaidOut shape
   pub are : ArePlaces shape columns c places
+  pub rising : IsRising places
+  pub few : count_of places < 2 ^ 32
+
+-- two series have a grid in common, or one of them lies on none
+abbrev pub HaveGrid : Shape → Shape → Type 0
+HaveGrid (Regular g) (Regular h) = (grid : CommonGrid) × (common_grid g.calendar h.calendar ≡ Ok grid)
+    × IsEarly grid.unit g.calendar.patt_start
+HaveGrid (Regular g) Irregular = Unit {0}
+HaveGrid Irregular (Regular h) = Unit {0}
+HaveGrid Irregular Irregular = Unit {0}
 
 -- the command that joins two series so
 abbrev pub join_of : Junction → List ℕ → List ℕ → ℤ → ℤ → Command

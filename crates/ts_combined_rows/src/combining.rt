@@ -1,36 +1,31 @@
 // The routines that combine series: two as one, and one against itself.
-ghost use Rattle.std.specs.Prelude.{◌≡◌, ◌++◌, ℕ, List, []};
+ghost use Rattle.std.specs.Prelude.{◌≡◌, ℕ, List, []};
 ghost use Rattle.ts_command.specs.declared.command.Command.TheVariants.{Lag};
 ghost use Rattle.ts_space.specs.Directory.{places_of};
-ghost use Rattle.ts_clip.specs.Series.{IsLaidOut};
-ghost use Rattle.ts_combine.specs.Combine.{joined};
-ghost use Rattle.ts_combine.specs.Lag.{lagged};
-ghost use Rattle.ts_answer.specs.Reply.{elements_text};
-ghost use Rattle.ts_answer.specs.Tried.{IsTried};
 ghost use Rattle.ts_answer.specs.View.{view, IsSeen};
 ghost use Rattle.ts_answer.specs.CarriedOut.{ReadOut};
 ghost use Rattle.ts_shelf.specs.Shelf.{IsShelf};
-ghost use Rattle.ts_combined_rows.specs.Combining.{join_of, AreOfSeries, IsReadable, IsThere, side_with};
+ghost use Rattle.ts_combined_rows.specs.Combining.{join_of, IsReadable};
 
-use crate::rows::{rows_of, say_moved, say_rows};
-use crate::sides::{elements_in, greatest_stamp, side_of};
+use crate::moved::moved_rows;
+use crate::pairs::{Pair, say_pair};
+use crate::rows::MOST_ROWS;
+use crate::sides::no_common_grid;
 use std::alloc::Global;
 use ts_answer::Stop;
-use ts_base::{Key, Refusal, Reply, Stamp, Trouble};
-use ts_combine::{elements_outside_play_no_part, first_needed};
-use ts_entry::KeptElements;
+use ts_base::{Key, Refusal, Reply, Stamp};
 use ts_model::Defs;
-use ts_offset::Shape;
 use ts_page::{Page, Pages};
 use ts_pattern::Junction;
-use ts_row::Shelf;
+use ts_say::{EntryLines, say_count};
 use ts_shelf::shelf_of;
 use ts_space::Space;
 
 /// Says two series as one, from one stamp to another, both included: rows with the columns of both. Keys that no series
 /// has are refused first; UnitMismatch and NotAligned where both are regular and have no grid in common, TooLarge where
-/// the rows are more than 1000000. `page` is room to read one; the memory is for the elements that are needed and for
-/// the rows.
+/// the rows are more than 1000000; of these TooLarge alone is told by elements, which are read before, and some lines
+/// stand in the reply by then. `page` is room to read one; the memory is for the elements of a few pages of each at a
+/// time, and for their rows.
 pub fn join<P: Pages>(
     alloc: Global,
     pages: &mut P,
@@ -52,88 +47,60 @@ pub fn join<P: Pages>(
 {
     let one = shelf_of(pages, defs, space, first)?;
     let other = shelf_of(pages, defs, space, second)?;
-    join_on(
-        alloc, pages, page, defs, space, junction, &one, &other, from, to, out,
-    )
+    let pair = Pair {
+        defs,
+        space,
+        junction,
+        first: &one,
+        second: &other,
+    };
+    join_on(alloc, pages, page, &pair, from, to, out)
 }
 
-// Says them, once both are known: the elements of each that are needed are read, then combined.
+// Says them, once both are known: where they have no grid in common, no element is read; else those of each that are
+// needed are read and combined, a part of the range after the other.
 fn join_on<P: Pages>(
     alloc: Global,
     pages: &mut P,
     page: &mut Page,
-    defs: &Defs,
-    space: &Space,
-    junction: Junction,
-    first: &(Shelf<'_>, Shape<'_>),
-    second: &(Shelf<'_>, Shape<'_>),
+    pair: &Pair<'_>,
     from: Stamp,
     to: Stamp,
     out: &mut Reply,
 ) -> Result<(), Stop>
-    requires first { IsReadable first.now.1 first.now.0.series first.now.0.kind.now.columns defs.now.definitions
-        (places_of first.now.0.series space.now) (P.contents pages.old) }
-    requires second { IsReadable second.now.1 second.now.0.series second.now.0.kind.now.columns defs.now.definitions
-        (places_of second.now.0.series space.now) (P.contents pages.old) }
+    requires first { IsReadable pair.now.first.now.1 pair.now.first.now.0.series
+        pair.now.first.now.0.kind.now.columns pair.now.defs.now.definitions
+        (places_of pair.now.first.now.0.series pair.now.space.now) (P.contents pages.old) }
+    requires second { IsReadable pair.now.second.now.1 pair.now.second.now.0.series
+        pair.now.second.now.0.kind.now.columns pair.now.defs.now.definitions
+        (places_of pair.now.second.now.0.series pair.now.space.now) (P.contents pages.old) }
     requires empty { out.old ≡ [] }
     ensures read { (key key' : List ℕ)
-        → IsShelf first.now.1 first.now.0.series first.now.0.kind.now key defs.now.definitions
-        → IsShelf second.now.1 second.now.0.series second.now.0.kind.now key' defs.now.definitions
-        → ReadOut P.tells (join_of junction key key' from to) result out.new
-        (view defs.now.definitions space.now (P.contents pages.old))
+        → IsShelf pair.now.first.now.1 pair.now.first.now.0.series pair.now.first.now.0.kind.now key
+        pair.now.defs.now.definitions
+        → IsShelf pair.now.second.now.1 pair.now.second.now.0.series pair.now.second.now.0.kind.now key'
+        pair.now.defs.now.definitions
+        → ReadOut P.tells (join_of pair.now.junction key key' from to) result out.new
+        (view pair.now.defs.now.definitions pair.now.space.now (P.contents pages.old))
         (P.contents pages.new) }
     ensures undisturbed { P.undisturbed pages.old pages.new }
 {
-    let (shelf, shape) = first;
-    let low = first_needed(shape, from);
-    let ones = elements_in(alloc, pages, page, space, shelf, shape, low, to)?;
-    let (shelf, shape) = second;
-    let low = first_needed(shape, from);
-    let others = elements_in(alloc, pages, page, space, shelf, shape, low, to)?;
-    // What the law says, it says of stamps in range.
-    let _units = from.units();
-    elements_outside_play_no_part();
-    say_series_joined(
-        alloc, defs, junction, first, &ones, second, &others, from, to, out,
-    )?;
-    Ok(())
-}
-
-// Says two series as one, by these elements of each.
-fn say_series_joined(
-    alloc: Global,
-    defs: &Defs,
-    junction: Junction,
-    first: &(Shelf<'_>, Shape<'_>),
-    ones: &KeptElements,
-    second: &(Shelf<'_>, Shape<'_>),
-    others: &KeptElements,
-    from: Stamp,
-    to: Stamp,
-    out: &mut Reply,
-) -> Result<(), Trouble>
-    requires first { IsThere first.now.1 first.now.0.series defs.now.definitions }
-    requires second { IsThere second.now.1 second.now.0.series defs.now.definitions }
-    ensures { AreOfSeries first.now.1 first.now.0.kind.now.columns ones.now
-        → AreOfSeries second.now.1 second.now.0.kind.now.columns others.now
-        → IsTried result (joined junction (side_with first.now.1 first.now.0.kind.now.columns ones.now)
-        (side_with second.now.1 second.now.0.kind.now.columns others.now) from to)
-        (λ said rows. out.new ≡ out.old
-        ++ elements_text (first.now.0.kind.now.columns ++ second.now.0.kind.now.columns) rows) }
-{
-    let one = side_of(defs, &first.0, &first.1, ones);
-    let other = side_of(defs, &second.0, &second.1, others);
-    let rows = rows_of(alloc, junction, &one, &other, from, to)?;
-    say_rows(out, first.0.kind, second.0.kind, &one, &other, &rows)?;
+    if let Some(why) = no_common_grid(pair.defs, pair.first, pair.second) {
+        return Err(Stop::Refused(why));
+    }
+    let count = say_pair(alloc, pages, page, pair, from, to, out)?;
+    if count > MOST_ROWS {
+        return Err(Stop::Refused(Refusal::TooLarge { rows: count }));
+    }
+    say_count(out, count)?;
     Ok(())
 }
 
 /// Says the elements of a regular series, each at the on start so many behind its own, up to the last element; a
-/// negative number leads to earlier on starts. A key that no series has is refused, then an irregular series as
-/// NotRegular, whose pages aren't read; TooLarge where the rows are more than 1000000. `page` is room to read one; the
-/// memory is for the elements and for the rows.
+/// negative number leads to earlier on starts. A key that no series has is refused first, then an irregular series as
+/// NotRegular, whose pages aren't read; TooLarge where the rows are more than 1000000, and some lines stand in the
+/// reply by then. `page` is room to read one; an element is said as soon as it is read, and none is kept.
 pub fn lag<P: Pages>(
-    alloc: Global,
     pages: &mut P,
     page: &mut Page,
     defs: &Defs,
@@ -149,57 +116,12 @@ pub fn lag<P: Pages>(
         (P.contents pages.new) }
     ensures undisturbed { P.undisturbed pages.old pages.new }
 {
-    let found = shelf_of(pages, defs, space, key)?;
-    lag_on(alloc, pages, page, defs, space, &found, by, out)
-}
-
-// Says them, once the series is known.
-fn lag_on<P: Pages>(
-    alloc: Global,
-    pages: &mut P,
-    page: &mut Page,
-    defs: &Defs,
-    space: &Space,
-    found: &(Shelf<'_>, Shape<'_>),
-    by: i64,
-    out: &mut Reply,
-) -> Result<(), Stop>
-    requires readable { IsReadable found.now.1 found.now.0.series found.now.0.kind.now.columns defs.now.definitions
-        (places_of found.now.0.series space.now) (P.contents pages.old) }
-    requires empty { out.old ≡ [] }
-    ensures read { (key : List ℕ) → IsShelf found.now.1 found.now.0.series found.now.0.kind.now key defs.now.definitions
-        → ReadOut P.tells (Lag key by) result out.new (view defs.now.definitions space.now (P.contents pages.old))
-        (P.contents pages.new) }
-    ensures undisturbed { P.undisturbed pages.old pages.new }
-{
-    let (shelf, shape) = found;
-    let Shape::Regular(grid) = shape else {
-        return Err(Stop::Refused(Refusal::NotRegular));
-    };
-    let from = grid.origin();
-    let to = greatest_stamp();
-    let kept = elements_in(alloc, pages, page, space, shelf, shape, from, to)?;
-    say_series_lagged(alloc, defs, found, &kept, by, out)?;
-    Ok(())
-}
-
-// Says a series against itself, by its elements.
-fn say_series_lagged(
-    alloc: Global,
-    defs: &Defs,
-    found: &(Shelf<'_>, Shape<'_>),
-    kept: &KeptElements,
-    by: i64,
-    out: &mut Reply,
-) -> Result<(), Trouble>
-    requires there { IsThere found.now.1 found.now.0.series defs.now.definitions }
-    requires laid { IsLaidOut found.now.1 }
-    ensures { AreOfSeries found.now.1 found.now.0.kind.now.columns kept.now
-        → IsTried result (lagged found.now.1 by kept.now)
-        (λ said rows. out.new ≡ out.old ++ elements_text found.now.0.kind.now.columns rows) }
-{
-    let side = side_of(defs, &found.0, &found.1, kept);
-    let rows = ts_combine::lag(alloc, &side, by)?;
-    say_moved(out, found.0.kind, side.elems, &rows)?;
+    let (shelf, shape) = shelf_of(pages, defs, space, key)?;
+    let mut lines = EntryLines::behind(out);
+    let done = moved_rows(pages, page, space, &shelf, &shape, by, &mut lines)?;
+    match done {
+        Ok(count) => say_count(out, count)?,
+        Err(refusal) => return Err(Stop::Refused(refusal)),
+    }
     Ok(())
 }

@@ -1,19 +1,23 @@
-// What is said of series that are combined: their rows, each in a line, and how many they are.
-ghost use Rattle.std.specs.Prelude.{◌≡◌, ◌<◌, ◌++◌, OnOk, All, map, length};
+// What is said of series that are combined: their rows, each in a line.
+ghost use Rattle.std.specs.Prelude.{◌≡◌, ◌++◌, ◌⊎◌, OnOk, map, length};
+ghost use Rattle.std.specs.List.{flat_map};
 ghost use Rattle.std.specs.Option.{option_copied};
 ghost use Rattle.ts_combine.specs.Combine.{joined};
 ghost use Rattle.ts_combine.specs.Series.{side_of, elements_in, IsSeries, HasCalendar};
-ghost use Rattle.ts_combine.specs.Call.{AnswersRows, joined_row, row_at};
-ghost use Rattle.ts_combine.specs.Moved.{lagged_row};
-ghost use Rattle.ts_answer.specs.Reply.{elements_text};
+ghost use Rattle.ts_combine.specs.Call.{AnswersRows, HaveNoGrid, joined_row, row_at};
+ghost use Rattle.ts_combine.specs.Rows.{IsRefusedFor, IsTooLarge};
+ghost use Rattle.ts_answer.specs.Reply.{element_line};
 ghost use Rattle.ts_combined_rows.specs.Combining.{AllFit};
 
 use std::alloc::{AllocError, Global};
 use ts_base::{Reply, Stamp, Trouble};
-use ts_combine::{Joined, Lagged, Side, intersect, union};
+use ts_combine::{Joined, Side, intersect, union};
 use ts_pattern::Junction;
 use ts_row::{Elem, Row, RowType};
-use ts_say::{DayText, say_count, say_joined, say_line};
+use ts_say::{DayText, say_joined};
+
+/// The most rows of a reply.
+pub(crate) const MOST_ROWS: u64 = 1_000_000;
 
 /// The rows of two series as one, from one stamp to another.
 pub(crate) fn rows_of(
@@ -26,8 +30,10 @@ pub(crate) fn rows_of(
 ) -> Result<Vec<Joined>, Trouble>
     requires first { HasCalendar first.now }
     requires second { HasCalendar second.now }
-    ensures { let a = side_of first.now in let b = side_of second.now in IsSeries a → IsSeries b
+    ensures rows { let a = side_of first.now in let b = side_of second.now in IsSeries a → IsSeries b
         → AnswersRows (joined_row a b) (joined junction a b from to) result }
+    ensures cause { IsRefusedFor (λ why. HaveNoGrid first.now.shape.now second.now.shape.now why
+        ⊎ IsTooLarge why) result }
 {
     match junction {
         Junction::And => intersect(alloc, first, second, from, to),
@@ -35,7 +41,7 @@ pub(crate) fn rows_of(
     }
 }
 
-/// Says the rows of two series as one, and how many they are.
+/// Says the rows of two series as one.
 pub(crate) fn say_rows(
     out: &mut Reply,
     first_kind: &RowType,
@@ -48,7 +54,7 @@ pub(crate) fn say_rows(
     requires second { second.now.columns ≡ length second_kind.now.columns }
     ensures { OnOk result (AllFit first_kind.now.columns (elements_in first.now.elems.now)
         → AllFit second_kind.now.columns (elements_in second.now.elems.now)
-        → out.new ≡ out.old ++ elements_text (first_kind.now.columns ++ second_kind.now.columns)
+        → out.new ≡ out.old ++ flat_map (element_line (first_kind.now.columns ++ second_kind.now.columns))
         (map (joined_row (side_of first.now) (side_of second.now)) rows.now)) }
 {
     let mut day = DayText::first();
@@ -65,25 +71,7 @@ pub(crate) fn say_rows(
             other,
         )?;
     }
-    say_count(out, rows.len() as u64)
-}
-
-/// Says elements at other stamps than their own, each in a line, and how many they are.
-pub(crate) fn say_moved(
-    out: &mut Reply,
-    kind: &RowType,
-    elems: &[Elem],
-    rows: &[Lagged],
-) -> Result<(), AllocError>
-    requires { All (λ l. l.index < length elems.now) rows.now }
-    ensures { OnOk result (out.new ≡ out.old
-        ++ elements_text kind.now.columns (map (lagged_row (elements_in elems.now)) rows.now)) }
-{
-    let mut day = DayText::first();
-    for row in rows {
-        say_line(out, &mut day, kind, row.stamp, &elems[row.index].row)?;
-    }
-    say_count(out, rows.len() as u64)
+    Ok(())
 }
 
 // The row of an element by its index, if there is an index.

@@ -1,18 +1,20 @@
 // Series as they are combined: some of their elements, and on a grid its calendar.
-ghost use Rattle.std.specs.Prelude.{◌≡◌, ◌<◌, IfOk, Some, option_copied, option_map, pos};
+ghost use Rattle.std.specs.Prelude.{◌≡◌, ◌<◌, IfNone, IfOk, IfSome, Some, option_copied, option_map, pos};
 ghost use Rattle.ts_row.specs.Element.{seen};
 ghost use Rattle.ts_space.specs.Directory.{places_of};
 ghost use Rattle.ts_irregular.specs.Call.{Reads};
 ghost use Rattle.ts_sheets.specs.Range.{within_range};
 ghost use Rattle.ts_offset.specs.declared.shape.Shape.{Shape as TheShape};
 ghost use Rattle.ts_clip.specs.Series.{ArePlaces, IsLaidOut, IsTold};
+ghost use Rattle.ts_combine.specs.Call.{HaveNoGrid};
+ghost use Rattle.ts_combine.specs.Reach.{LiesOn};
 ghost use Rattle.ts_combine.specs.Series.{side_of, HasCalendar, IsGivenFor};
 ghost use Rattle.ts_model.specs.Definitions.{series_slots, at_slot};
 ghost use Rattle.ts_layout.specs.Meaning.{shape_at};
-ghost use Rattle.ts_combined_rows.specs.Combining.{IsThere, side_with};
+ghost use Rattle.ts_combined_rows.specs.Combining.{HaveGrid, IsThere, side_with};
 
 use std::alloc::Global;
-use ts_base::{Stamp, StoreFault};
+use ts_base::{Refusal, Stamp, StoreFault};
 use ts_calendar::Calendar;
 use ts_clip::elements;
 use ts_combine::Side;
@@ -78,6 +80,37 @@ pub(crate) fn side_of<'a>(
         columns: shelf.kind.columns().len(),
         shape,
         calendar: calendar_of(defs, shelf.series),
+    }
+}
+
+/// Why two series that are both regular have no grid in common, if they have none: their definitions alone tell.
+pub(crate) fn no_common_grid(
+    defs: &Defs,
+    first: &(Shelf<'_>, Shape<'_>),
+    second: &(Shelf<'_>, Shape<'_>),
+) -> Option<Refusal>
+    requires first { IsThere first.now.1 first.now.0.series defs.now.definitions }
+    requires second { IsThere second.now.1 second.now.0.series defs.now.definitions }
+    ensures some { IfSome result (HaveNoGrid first.now.1 second.now.1) }
+    ensures none { IfNone result (HaveGrid first.now.1 second.now.1) }
+{
+    let calendar = grid_calendar(defs, first)?;
+    let other = grid_calendar(defs, second)?;
+    match calendar.common_grid(other) {
+        Ok(_) => None,
+        Err(why) => Some(why),
+    }
+}
+
+// The calendar of a series that is regular.
+fn grid_calendar<'a>(defs: &'a Defs, series: &(Shelf<'_>, Shape<'_>)) -> Option<&'a Calendar>
+    requires { IsThere series.now.1 series.now.0.series defs.now.definitions }
+    ensures { LiesOn series.now.1 result }
+{
+    let (shelf, shape) = series;
+    match shape {
+        Shape::Regular(_) => calendar_of(defs, shelf.series),
+        Shape::Irregular => None,
     }
 }
 

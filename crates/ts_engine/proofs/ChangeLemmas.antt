@@ -37,12 +37,13 @@ module _ (tells : Bool) (e f : Kept) (v w : Device) (before : IsOver tells e.sto
         now.1,
       )) (moments told)
 
-  pub committed : (tables : f.tables ≡ e.tables) → (space : f.space ≡ e.space) → (charges : f.charges ≡ e.charges) → (saved : f.saved ≡ e.saved) → (spent : f.spent ≡ e.spent) → Closes e.store f.store → IsOver tells f.store w
+  pub committed : (tables : f.tables ≡ e.tables) → (space : f.space ≡ e.space) → (charges : f.charges ≡ e.charges) → (hidden : f.hidden ≡ e.hidden) → (saved : f.saved ≡ e.saved) → (spent : f.spent ≡ e.spent) → Closes e.store f.store → IsOver tells f.store w
       → (IsTrue tells → ReadsButFreed v.size e.store.overlay (read_pages e.store v.held) w.held) → w.faults ≡ v.faults → Finished tells (Ok tt) (Ok tt) e f v w
-  committed tables space charges saved spent closes over reads no_fault = record {
+  committed tables space charges hidden saved spent closes over reads no_fault = record {
     tables = tables;
     space = space;
     charges = charges;
+    hidden = hidden;
     saved = saved;
     done = refl;
     over = over;
@@ -60,11 +61,12 @@ module _ (tells : Bool) (e f : Kept) (v w : Device) (before : IsOver tells e.sto
     no_fault = no_fault;
   }
 
-  pub uncommitted : (tables : f.tables ≡ e.tables) → (space : f.space ≡ e.space) → (charges : f.charges ≡ e.charges) → (saved : f.saved ≡ e.saved) → (spent : f.spent ≡ Some w.faults) → Rose v.faults w.faults → Finished tells (Ok tt) (Err Disk) e f v w
-  uncommitted tables space charges saved spent rose = record {
+  pub uncommitted : (tables : f.tables ≡ e.tables) → (space : f.space ≡ e.space) → (charges : f.charges ≡ e.charges) → (hidden : f.hidden ≡ e.hidden) → (saved : f.saved ≡ e.saved) → (spent : f.spent ≡ Some w.faults) → Rose v.faults w.faults → Finished tells (Ok tt) (Err Disk) e f v w
+  uncommitted tables space charges hidden saved spent rose = record {
     tables = tables;
     space = space;
     charges = charges;
+    hidden = hidden;
     saved = saved;
     done = tt;
     over = tt;
@@ -98,6 +100,7 @@ module _ (tells : Bool) (worked : Result Unit StoreFault) (done : IsOk worked) (
     tables = x.tables;
     space = x.space;
     charges = x.charges;
+    hidden = x.hidden;
     saved = x.saved;
     done = x.done;
     over = x.over;
@@ -118,6 +121,7 @@ module _ (tells : Bool) (worked : Result Unit StoreFault) (done : IsOk worked) (
     tables = x.tables;
     space = x.space;
     charges = x.charges;
+    hidden = x.hidden;
     saved = x.saved;
     done = tt;
     over = tt;
@@ -138,6 +142,7 @@ module _ (tells : Bool) (worked : Result Unit StoreFault) (done : IsOk worked) (
     tables = x.tables;
     space = x.space;
     charges = x.charges;
+    hidden = x.hidden;
     saved = x.saved;
     done = tt;
     over = tt;
@@ -177,6 +182,7 @@ module _ (tells : Bool) (worked : Result Unit StoreFault) (e g f : Kept) (v : De
     tables = ap (λ (x : Kept). x.tables) spent ∙ ap (λ (x : Kept). x.tables) is;
     space = ap (λ (x : Kept). x.space) spent ∙ ap (λ (x : Kept). x.space) is;
     charges = ap (λ (x : Kept). x.charges) spent ∙ ap (λ (x : Kept). x.charges) is;
+    hidden = ap (λ (x : Kept). x.hidden) spent ∙ ap (λ (x : Kept). x.hidden) is;
     saved = ap (λ (x : Kept). x.saved) spent ∙ ap (λ (x : Kept). x.saved) is;
     done = tt;
     over = tt;
@@ -199,6 +205,7 @@ module _ (tells : Bool) (worked : Result Unit StoreFault) (e g f : Kept) (v : De
     tables = ap (λ (x : Kept). x.tables) drop ∙ ap (λ (x : Kept). x.tables) is;
     space = ap (λ (x : Kept). x.space) drop ∙ ap (λ (x : Kept). x.space) is;
     charges = ap (λ (x : Kept). x.charges) drop ∙ ap (λ (x : Kept). x.charges) is;
+    hidden = ap (λ (x : Kept). x.hidden) drop ∙ ap (λ (x : Kept). x.hidden) is;
     saved = ap (λ (x : Kept). x.saved) drop ∙ ap (λ (x : Kept). x.saved) is;
     done = tt;
     over = tt;

@@ -1,5 +1,5 @@
 -- A volume that is put into the newest format.
-use Rattle.std.proofs.Common.{◌≡◌, ◌-◌, ℕ, Bool, IsTrue, None, Result, Ok, Err, OnOk, IsErrAnd, length, refl, ap, sym, ◌∙◌, subst, arith}
+use Rattle.std.proofs.Common.{◌≡◌, ◌-◌, ℕ, Bool, IsTrue, None, Result, Ok, Err, OnOk, IsErrAnd, List, length, refl, ap, sym, ◌∙◌, subst, arith}
 use Rattle.ts_base.specs.declared.fault.StoreFault.{StoreFault}
 use Rattle.ts_disk.specs.Device.{Device, Lawful}
 use Rattle.ts_page.specs.Pages.{Contents, EqualPages, with_page}
@@ -18,12 +18,14 @@ use Rattle.ts_container.specs.Survey.{HeaderWritten}
 use Rattle.ts_answer.specs.View.{IsHeldOf}
 use Rattle.ts_answer.proofs.CallerLemmas.{held_same}
 use Rattle.ts_engine.specs.declared.fault.StepFault.{StepFault}
+use Rattle.ts_hidden.specs.Marks.{Cover, Include}
+use Rattle.ts_hidden.proofs.CallerLemmas.{all_included}
 use Rattle.ts_engine.specs.Engine.{Kept, IsKeptOf, IsReady}
 use Rattle.ts_engine.specs.Migrate.{Migrated, state_renewed}
 use Rattle.ts_engine.specs.Change.{Finished, Changed}
 use Rattle.ts_engine.proofs.ChangeLemmas.{changed}
 use Rattle.ts_effects.proofs.CallerLemmas.{charges_same}
-use Rattle.ts_engine.proofs.StandLemmas.{same_copies, still_none}
+use Rattle.ts_engine.proofs.StandLemmas.{same_copies, still_none, seen_means}
 use Rattle.ts_engine.proofs.MovesLemmas.{Next, Follows, moves_ok, moves_fault, moves_still, stands_resting}
 
 -- a catalogue of the newest format
@@ -33,7 +35,7 @@ newest_stays cat newest = λ i. record cat { format = sym newest i }
 -- a volume of the newest format stays as it is
 pub migrated_none : (tells : Bool) (e : Kept) (v : Device) → Lawful tells v → IsReady tells e v → e.saved ≡ None → e.tables.definitions.format ≡ newest_format → Migrated tells (Ok tt) e e v v
 migrated_none tells e v lawful ready none newest_is = record {
-  moves = moves_still tells state_renewed e e v v ready (still_none tells e.store v lawful) ready.unspent refl refl refl e.saved refl (same_copies e.saved) ready.small
+  moves = moves_still tells state_renewed e e v v ready (still_none tells e.store v lawful) ready.unspent refl refl refl (all_included e.hidden) e.saved refl (same_copies e.saved) ready.small
       (λ told state at.
       let is = stands_resting tells e v ready none told state at in
       let cat = catalogue_of (ready.seen.layout told).0 in
@@ -102,6 +104,9 @@ module _ (tells : Bool) (e : Kept) (v : Device) (lawful : Lawful tells v) (ready
           moves = moves_ok tells state_renewed Work e g' v w lawful later ready none next now (saved ∙ none)
               (kept_alike (with_format newest_format e.tables.definitions) g'.tables.definitions e.space g'.space e.store.free g'.store.free e.store.pages g'.store.pages (kept_renewed e.tables.definitions e.space e.store.free e.store.pages ready.seen.kept) definitions lists free pages)
               (λ told. held_same (with_format newest_format e.tables.definitions) g'.tables.definitions e.space g'.space e.store.pages g'.store.pages e.store.free g'.store.free (layout_in newest_format (ready.seen.layout told).0) (held_renewed (ready.seen.layout told).0 (ready.seen.layout told).1.kept) definitions lists pages free)
+              (λ told.
+              let l = (ready.seen.layout told).0 in
+              subst (λ (marks : List (List ℕ)). Cover marks (catalogue_of (layout_in newest_format l))) (sym (finished.hidden ∙ ap (λ (k : Kept). k.hidden) is)) (ready.marked told (catalogue_of l) (seen_means tells e v ready.seen told)))
               (charges_same e.charges g'.charges (with_format newest_format e.tables.definitions) g'.tables.definitions e.space g'.space ready.charges charges definitions lists);
           newest = refl;
         })
@@ -112,7 +117,7 @@ module _ (tells : Bool) (e : Kept) (v : Device) (lawful : Lawful tells v) (ready
         let tables : ended.tables ≡ e.tables = finished.tables ∙ ap (λ (k : Kept). k.tables) is in
         record {
           moves = moves_fault tells state_renewed Work e ended v w lawful later ready none next fault (ended_changed (Err fault) finished) (ap (λ (t : Tables). t.definitions) tables)
-              (ap (λ (s : Directory). s.lists) (finished.space ∙ ap (λ (k : Kept). k.space) is)) (finished.charges ∙ ap (λ (k : Kept). k.charges) is) (finished.saved ∙ ap (λ (k : Kept). k.saved) is);
+              (ap (λ (s : Directory). s.lists) (finished.space ∙ ap (λ (k : Kept). k.space) is)) (finished.charges ∙ ap (λ (k : Kept). k.charges) is) (subst (λ (marks : List (List ℕ)). Include marks e.hidden) (sym (finished.hidden ∙ ap (λ (k : Kept). k.hidden) is)) (all_included e.hidden)) (finished.saved ∙ ap (λ (k : Kept). k.saved) is);
           newest = tt;
         }
 

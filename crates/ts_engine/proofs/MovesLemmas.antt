@@ -19,13 +19,15 @@ use Rattle.ts_engine.specs.declared.fault.StepFault.{StepFault}
 use Rattle.ts_engine.specs.declared.fault.StepFault.TheVariants.{Disk, Memory, Closed}
 use Rattle.ts_engine.specs.declared.transaction.Saved.{Saved}
 use Rattle.ts_volume.specs.Volume.{MeansCatalogue}
-use Rattle.ts_engine.specs.Engine.{Kept, IsKeptOf, IsSmall, IsStanding, IsReady, IsAt, back_to}
+use Rattle.ts_hidden.specs.Marks.{Cover, Include}
+use Rattle.ts_answer.specs.View.{IsSeen}
+use Rattle.ts_engine.specs.Engine.{Kept, IsKeptOf, IsSmall, IsStanding, IsReady, IsAt, seen_by, back_to}
 use Rattle.ts_engine.specs.Moves.{BeforeOrAfter, IsUntouched, Moves}
 use Rattle.ts_engine.specs.Change.{IsStill, ChangeLeaves, Changed}
 use Rattle.ts_effects.proofs.CallerLemmas.{charges_same}
 use Rattle.ts_engine.proofs.StateLemmas.{accepted_of, accepted_by}
 use Rattle.ts_volume.proofs.CallerLemmas.{holds_still, means_layout}
-use Rattle.ts_engine.proofs.StandLemmas.{SameCopies, same_copies, seen_same, still_reads, still_idle, still_closed, still_small, still_back, base_still, one_layout, read_means, means_alike, means_held}
+use Rattle.ts_engine.proofs.StandLemmas.{SameCopies, same_copies, seen_same, marked_same, marked_of, still_reads, still_idle, still_closed, still_small, still_back, base_still, one_layout, read_means, means_alike, means_held}
 
 -- a call that only reads leaves what the volume means
 pub read_moments : (tells : Bool) (after : State → State) (e : Kept) (v w : Device) → IsReady tells e v → OnlyReads tells v w → (state : State) → IsAt tells e state v → LeavesOnly v w (BeforeOrAfter state (after state) v)
@@ -51,13 +53,14 @@ pub record Follows (saved : Option Saved) (state next : State) : Type 0 where
 
 -- nothing is written
 module _ (tells : Bool) (after : State → State) (e f : Kept) (v w : Device) (ready : IsReady tells e v) (still : IsStill tells e.store f.store v w) (unspent : f.spent ≡ None)
-    (definitions : f.tables.definitions ≡ e.tables.definitions) (lists : f.space.lists ≡ e.space.lists) (charges : f.charges ≡ e.charges) where
+    (definitions : f.tables.definitions ≡ e.tables.definitions) (lists : f.space.lists ≡ e.space.lists) (charges : f.charges ≡ e.charges) (more : Include f.hidden e.hidden) where
   -- a transaction counts perhaps more
   module _ (saved : Option Saved) (is : f.saved ≡ saved) (copies : SameCopies e.saved saved) (small : IfSome saved (λ s. IsSmall s.accepted (contents_over (store_rolled_back e.store) v) (contents_over e.store v))) where
     standing : IsStanding tells f w
     standing = record {
       idle = still_idle tells e.store f.store v w still ready.idle;
       seen = seen_same tells e f v w ready.seen definitions lists still.calls.pages still.free (still_reads tells e.store f.store v w still);
+      marked = marked_same tells e f v w ready.marked more still.calls.pages (still_reads tells e.store f.store v w still);
     }
 
     pub ready_still : IsReady tells f w
@@ -65,10 +68,11 @@ module _ (tells : Bool) (after : State → State) (e f : Kept) (v w : Device) (r
     ready_still = record {
       idle = standing.idle;
       seen = standing.seen;
+      marked = standing.marked;
       base = subst (λ (o : Option Saved). IsStanding tells (back_to f o) w) (sym is)
           (base_still tells e f v w e.saved saved copies
           (still_back tells e.store f.store v w still.calls.pages still.calls.journal still.calls.overlay still.calls.base_free still.calls.reads still.calls.cached still.no_fault)
-          (λ none. standing) ready.base);
+          more (λ none. standing) ready.base);
       closed = λ none. still_closed tells e.store f.store v w still (ready.closed (none_copied e.saved saved copies (sym is ∙ none)));
       small = subst (λ (o : Option Saved). IfSome o (λ s. IsSmall s.accepted (contents_over (store_rolled_back f.store) w) (contents_over f.store w))) (sym is)
           (if_some saved (λ s. IsSmall s.accepted (contents_over (store_rolled_back e.store) v) (contents_over e.store v)) (λ s. IsSmall s.accepted (contents_over (store_rolled_back f.store) w) (contents_over f.store w))
@@ -180,6 +184,7 @@ pub ready_resting : (tells : Bool) (f : Kept) (w : Device) → f.saved ≡ None 
 ready_resting tells f w none standing closed charges unspent = record {
   idle = standing.idle;
   seen = standing.seen;
+  marked = standing.marked;
   base = subst (λ (o : Option Saved). IsStanding tells (back_to f o) w) (sym none) standing;
   closed = λ same. closed;
   small = subst (λ (o : Option Saved). IfSome o (λ s. IsSmall s.accepted (contents_over (store_rolled_back f.store) w) (contents_over f.store w))) (sym none) tt;
@@ -213,11 +218,12 @@ module _ (tells : Bool) (after : State → State) (Work : Contents → Contents 
       ))
       (changed.moments told)
 
-  pub moves_ok : (changed : Changed tells Work (Ok tt) e.store f.store f.spent v w) → f.saved ≡ None → AreKept f.tables.definitions f.space f.store.free f.store.pages → ((told : IsTrue tells) → IsKeptOf f (next told changed.done.read changed.done.work).layout) → AreCharges f.charges f.tables.definitions f.space → Moves tells after (Ok tt) e f v w
-  moves_ok changed closed rules' kept' charged =
+  pub moves_ok : (changed : Changed tells Work (Ok tt) e.store f.store f.spent v w) → f.saved ≡ None → AreKept f.tables.definitions f.space f.store.free f.store.pages → ((told : IsTrue tells) → IsKeptOf f (next told changed.done.read changed.done.work).layout) → ((told : IsTrue tells) → Cover f.hidden (catalogue_of (next told changed.done.read changed.done.work).layout)) → AreCharges f.charges f.tables.definitions f.space → Moves tells after (Ok tt) e f v w
+  moves_ok changed closed rules' kept' covers charged =
       let to : (told : IsTrue tells) → Next tells after (ready.seen.layout told).0 changed.done.read = λ told. next told changed.done.read changed.done.work in
       let holds' : (told : IsTrue tells) → HoldsLayout (read_pages f.store w.held) (to told).layout = λ told. holds_still changed.done.read.page (read_pages f.store w.held) (to told).layout (changed.done.alike told) ((to told).holds told) in
-      let ready' : IsReady tells f w = ready_resting tells f w closed (record { idle = changed.idle; seen = record { kept = rules'; layout = λ told. ((to told).layout, record { kept = kept' told; holds = λ t. holds' told }) } }) changed.closed charged changed.unspent in
+      let seen' : IsSeen tells (seen_by f w) = record { kept = rules'; layout = λ told. ((to told).layout, record { kept = kept' told; holds = λ t. holds' told }) } in
+      let ready' : IsReady tells f w = ready_resting tells f w closed (record { idle = changed.idle; seen = seen'; marked = marked_of tells f w seen' covers }) changed.closed charged changed.unspent in
       record {
         ready = ready';
         at = λ told state at.
@@ -230,8 +236,8 @@ module _ (tells : Bool) (after : State → State) (Work : Contents → Contents 
         no_fault = changed.no_fault;
       }
 
-  pub moves_fault : (fault : StepFault) → Changed tells Work (Err fault) e.store f.store f.spent v w → f.tables.definitions ≡ e.tables.definitions → f.space.lists ≡ e.space.lists → f.charges ≡ e.charges → f.saved ≡ e.saved → Moves tells after (Err fault) e f v w
-  moves_fault Disk changed definitions lists charges saved = record {
+  pub moves_fault : (fault : StepFault) → Changed tells Work (Err fault) e.store f.store f.spent v w → f.tables.definitions ≡ e.tables.definitions → f.space.lists ≡ e.space.lists → f.charges ≡ e.charges → Include f.hidden e.hidden → f.saved ≡ e.saved → Moves tells after (Err fault) e f v w
+  moves_fault Disk changed definitions lists charges more saved = record {
     ready = tt;
     at = tt;
     fault = changed.fault;
@@ -239,8 +245,8 @@ module _ (tells : Bool) (after : State → State) (Work : Contents → Contents 
     others = changed.others;
     no_fault = tt;
   }
-  moves_fault (Memory error) changed definitions lists charges saved =
-      let stays = moves_memory tells after e f v w ready changed.fault.0 changed.fault.1 definitions lists charges saved error in
+  moves_fault (Memory error) changed definitions lists charges more saved =
+      let stays = moves_memory tells after e f v w ready changed.fault.0 changed.fault.1 definitions lists charges more saved error in
       record {
         ready = tt;
         at = tt;
@@ -249,4 +255,4 @@ module _ (tells : Bool) (after : State → State) (Work : Contents → Contents 
         others = changed.others;
         no_fault = tt;
       }
-  moves_fault (Closed faults) changed definitions lists charges saved = absurd changed.fault
+  moves_fault (Closed faults) changed definitions lists charges more saved = absurd changed.fault

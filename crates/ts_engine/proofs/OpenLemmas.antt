@@ -16,24 +16,27 @@ use Rattle.ts_model.specs.Definitions.{Definitions, Tables}
 use Rattle.ts_space.specs.Directory.{Directory}
 use Rattle.ts_container.specs.declared.fault.SurveyFault.{SurveyFault}
 use Rattle.ts_container.specs.declared.fault.SurveyFault.TheVariants.{NotAStore, Failed, Memory}
-use Rattle.ts_layout.specs.Meaning.{ElementPage, HoldsElements, HoldsLayout, catalogue_of}
-use Rattle.ts_container.specs.Survey.{IsFound, IfRefused}
+use Rattle.ts_layout.specs.Laws.{NamesStandInSlots}
+use Rattle.ts_layout.specs.Meaning.{Layout, ElementPage, HoldsElements, HoldsLayout, Means, catalogue_of}
+use Rattle.ts_container.specs.Survey.{IsFound, IsMarked, IfRefused}
 use Rattle.ts_recover.specs.declared.replay.RecoverFault.{RecoverFault}
 use Rattle.ts_recover.specs.declared.replay.RecoverFault.TheVariants as journal
 use Rattle.ts_recover.specs.declared.replay.Replayed.{Replayed}
 use Rattle.ts_recover.specs.Overlay.{RecoverCause}
 use Rattle.ts_volume.specs.FirstBad.{IsFirstBad, IsFirstBadOf}
 use Rattle.ts_layout.specs.Surveyed.{free_pages}
-use Rattle.ts_layout.proofs.CallerLemmas.{free_at, kept_alike, pairs_front}
+use Rattle.ts_layout.proofs.CallerLemmas.{free_at, kept_alike, pairs_front, same_catalogue}
 use Rattle.ts_engine.specs.declared.engine.Engine.{Engine}
 use Rattle.ts_volume.specs.Volume.{MeansCatalogue, MeansNothing}
 use Rattle.ts_container.specs.KeptCharges.{AreCharges}
 use Rattle.ts_layout.specs.Placed.{AreKept, used_pages}
 use Rattle.ts_effects.specs.Charged.{CanCount}
 use Rattle.ts_effects.proofs.CallerLemmas.{can_count}
-use Rattle.ts_engine.specs.Engine.{Kept, IsKeptOf, IsReady}
+use Rattle.ts_hidden.specs.Marks.{Cover, AreOfSlots}
+use Rattle.ts_engine.specs.Engine.{Kept, IsKeptOf, AreMarked, IsReady}
 use Rattle.ts_engine.specs.Start.{StillMeans, StartFault, ReadFault, Opened, read_as}
 use Rattle.ts_volume.proofs.CallerLemmas.{holds_still, means_layout}
+use Rattle.ts_engine.proofs.HiddenLemmas.{slots_cover}
 use Rattle.ts_engine.proofs.MeansLemmas.{still_means}
 use Rattle.ts_engine.proofs.MovesLemmas.{ready_resting, at_meant}
 
@@ -119,6 +122,20 @@ found_dropped tells count s t u v w x space free idle calls dropped found same =
       );
     })
 
+-- and so is what tells of hidden elements
+pub marked_dropped : (tells : Bool) (count : ℕ) (s t u : State) (v w : Device) (x : Definitions) (space : Directory) (free : List ℕ) (hidden : List Bool) → IsIdle tells s v → Undisturbed tells s t v w → u ≡ record t { batch = []; free = t.kept_free }
+    → IsMarked tells count (contents_over s v) x space free hidden → count ≡ s.pages → IsMarked tells u.pages (contents_over u w) x space free hidden
+marked_dropped tells count s t u v w x space free hidden idle calls dropped marked same =
+    let back : State = record t { batch = []; free = t.kept_free } in
+    let pages : read_pages back w.held ≡ read_pages s v.held = λ i k. read_dropped tells s t v w calls idle.batch k i in
+    subst (λ (z : State). IsMarked tells z.pages (contents_over z w) x space free hidden) (sym dropped)
+    (λ told. let known = marked told in (
+      known.0,
+      known.1,
+      record { size = calls.pages ∙ sym same ∙ known.2.size; bytes = subst (λ (p : ℕ → List ℕ). HoldsLayout p known.0) (sym pages) known.2.bytes; rules = known.2.rules },
+      known.3,
+    ))
+
 -- what containers are charged can be counted
 pub counted_found : (tells : Bool) (count : ℕ) (c : Contents) (x : Definitions) (space : Directory) (free : List ℕ) → IsFound tells count c x space free → CanCount x space.lists
 counted_found tells count c x space free found = can_count x space free count found.kept
@@ -151,10 +168,10 @@ module _ (tells : Bool) (s t : State) (v : Device) (x : Definitions) (space : Di
   settle_moments lawful w moments told cat means =
       leaves_map v w (SamePages v t.overlay) (StillMeans cat v) (λ image said now. (still_means v.size v.held t.overlay image cat (lawful.size told) allowed now.0 means, now.1)) (moments told)
 
-  module _ (u : State) (w : Device) (tables : Tables) (charges : List ℕ) (charged : AreCharges charges tables.definitions space) (lawful : Lawful tells v) (slots : length space.lists ≡ 4096) (same : tables.definitions ≡ x) (over : IsOver tells u w) (settled : Settles t u)
+  module _ (u : State) (w : Device) (tables : Tables) (hidden : List Bool) (marks : List (List ℕ)) (names : NamesStandInSlots) (tells_hidden : IsMarked tells s.pages (contents_over s v) x space free hidden) (slots_marked : AreOfSlots x hidden marks) (charges : List ℕ) (charged : AreCharges charges tables.definitions space) (lawful : Lawful tells v) (slots : length space.lists ≡ 4096) (same : tables.definitions ≡ x) (over : IsOver tells u w) (settled : Settles t u)
       (reads : IsTrue tells → ReadsButFreed v.size t.overlay (pages v.held) w.held) where
     abbrev pub engine : Kept
-    engine = record { store = u; tables = tables; space = space; charges = charges; saved = None; spent = None }
+    engine = record { store = u; tables = tables; space = space; charges = charges; hidden = marks; saved = None; spent = None }
 
     none_left : u.batch ≡ []
     none_left = settled.batch ∙ none_open
@@ -165,14 +182,17 @@ module _ (tells : Bool) (s t : State) (v : Device) (x : Definitions) (space : Di
       base_free = settled.base_free ∙ ap (λ (z : State). z.base_free) admit ∙ sym (settled.free ∙ ap (λ (z : State). z.free) admit);
     }
 
-    holds : (told : IsTrue tells) → HoldsLayout (read_pages u w.held) (found.layout told).0
+    -- a layout that was found is held still
+    held_then : (told : IsTrue tells) (l : Layout) → HoldsLayout (read_pages s v.held) l → HoldsLayout (read_pages u w.held) l
     unfolding over_admitted none_open none_kept none_left
-    holds told =
+    held_then told l bytes =
         let here : read_pages t v.held ≡ pages v.held = λ i k. read_closed t v.held none_kept none_open (over_admitted.read.stands told) k i in
         let before : read_pages t v.held ≡ read_pages s v.held = ap (λ (z : State). read_pages z v.held) admit in
         let alike = read_committed tells told t u v w over_admitted closed_left.transaction none_left over (subst (λ (p : ℕ → List ℕ). ReadsButFreed v.size t.overlay p w.held) (sym here) (reads told)) in
-        let known = found.layout told in
-        holds_still (read_pages t v.held) (read_pages u w.held) known.0 alike (subst (λ (p : ℕ → List ℕ). HoldsLayout p known.0) (sym before) known.2.bytes)
+        holds_still (read_pages t v.held) (read_pages u w.held) l alike (subst (λ (p : ℕ → List ℕ). HoldsLayout p l) (sym before) bytes)
+
+    holds : (told : IsTrue tells) → HoldsLayout (read_pages u w.held) (found.layout told).0
+    holds told = held_then told (found.layout told).0 (found.layout told).2.bytes
 
     free_is : u.free ≡ free
     free_is = settled.free ∙ ap (λ (z : State). z.free) admit
@@ -198,13 +218,23 @@ module _ (tells : Bool) (s t : State) (v : Device) (x : Definitions) (space : Di
     rules : AreKept tables.definitions space u.free u.pages
     rules = kept_alike x tables.definitions space space free u.free s.pages u.pages found.kept same refl free_is pages_are
 
+    -- the marks cover what the pages mean
+    marked : AreMarked tells engine w
+    marked told cat means =
+        let known = tells_hidden told in
+        let l = known.0 in
+        let here : Means u.pages (read_pages u w.held) (catalogue_of l) = (l, record { size = pages_are ∙ known.2.size; bytes = held_then told l known.2.bytes; rules = known.2.rules }, refl) in
+        subst (Cover marks) (sym (same_catalogue u.pages (read_pages u w.held) cat (catalogue_of l) means here))
+        (slots_cover names hidden marks l known.2.rules known.3 (subst (λ (d : Definitions). AreOfSlots d hidden marks) known.1.definitions slots_marked))
+
     pub ready : IsReady tells engine w
-    unfolding none_left holds kept rules
+    unfolding none_left holds kept rules marked
     ready =
         ready_resting tells engine w refl
         (record {
           idle = record { over = over; batch = none_left; kept_free = settled.kept_free ∙ ap (λ (z : State). z.kept_free) admit ∙ sym (settled.free ∙ ap (λ (z : State). z.free) admit) };
           seen = record { kept = rules; layout = λ told. ((found.layout told).0, record { kept = kept told; holds = λ t. holds told }) };
+          marked = marked;
         }) closed_left charged refl
 
     pub settled_opened : Lawful tells w → Keeps tells v w → (IsTrue tells → LeavesOnly v w (SamePages v t.overlay)) → w.faults ≡ v.faults → Opened tells (Ok engine) v w

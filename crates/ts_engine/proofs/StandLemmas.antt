@@ -17,7 +17,11 @@ use Rattle.ts_answer.proofs.CallerLemmas.{held_same}
 use Rattle.ts_answer.specs.View.{IsSeen}
 use Rattle.ts_volume.specs.Volume.{MeansCatalogue}
 use Rattle.ts_engine.specs.declared.transaction.Saved.{Saved}
-use Rattle.ts_engine.specs.Engine.{Kept, IsKeptOf, IsStanding, IsSmall, seen_by, back_to}
+use Rattle.ts_command.specs.declared.command.Command.{Command}
+use Rattle.ts_hidden.specs.Hidden.{IsCountShown}
+use Rattle.ts_hidden.specs.Marks.{Cover, Include, IsUnmarked}
+use Rattle.ts_hidden.proofs.CallerLemmas.{covered_more}
+use Rattle.ts_engine.specs.Engine.{Kept, IsKeptOf, AreMarked, IsStanding, IsSmall, seen_by, back_to}
 use Rattle.ts_engine.specs.Change.{ReadsAlike, IsStill}
 use Rattle.ts_volume.proofs.CallerLemmas.{means_layout}
 
@@ -43,6 +47,12 @@ seen_same tells e f v w seen definitions lists pages free same = record {
         },
       );
 }
+
+-- where the same is read, marks cover what it means, and so do more
+pub marked_same : (tells : Bool) (e f : Kept) (v w : Device) → AreMarked tells e v → Include f.hidden e.hidden → f.store.pages ≡ e.store.pages → ((number : ℕ) → read_pages f.store w.held number ≡ read_pages e.store v.held number) → AreMarked tells f w
+marked_same tells e f v w marked more pages same told cat means =
+    covered_more e.hidden f.hidden cat more
+    (marked told cat (subst (λ (n : ℕ). Means n (read_pages e.store v.held) cat) pages (subst (λ (p : ℕ → List ℕ). Means f.store.pages p cat) (λ i k. same k i) means)))
 
 -- A store over which nothing was written.
 module _ (tells : Bool) (s t : Store) (v w : Device) (still : IsStill tells s t v w) where
@@ -108,10 +118,11 @@ still_back tells s t v w pages journal overlay base_free reads cached no_fault =
 }
 
 -- what stands stands still where nothing is written
-pub standing_still : (tells : Bool) (e f : Kept) (v w : Device) → IsStanding tells e v → IsStill tells e.store f.store v w → f.tables.definitions ≡ e.tables.definitions → f.space.lists ≡ e.space.lists → IsStanding tells f w
-standing_still tells e f v w standing still definitions lists = record {
+pub standing_still : (tells : Bool) (e f : Kept) (v w : Device) → IsStanding tells e v → IsStill tells e.store f.store v w → f.tables.definitions ≡ e.tables.definitions → f.space.lists ≡ e.space.lists → Include f.hidden e.hidden → IsStanding tells f w
+standing_still tells e f v w standing still definitions lists more = record {
   idle = still_idle tells e.store f.store v w still standing.idle;
   seen = seen_same tells e f v w standing.seen definitions lists still.calls.pages still.free (still_reads tells e.store f.store v w still);
+  marked = marked_same tells e f v w standing.marked more still.calls.pages (still_reads tells e.store f.store v w still);
 }
 
 -- the copies of two engines are the same
@@ -126,13 +137,13 @@ same_copies None = tt
 same_copies (Some a) = (refl, refl)
 
 -- the base stands still while work goes on; where none is open, it is that work
-pub base_still : (tells : Bool) (e f : Kept) (v w : Device) (o p : Option Saved) → SameCopies o p → IsStill tells (store_rolled_back e.store) (store_rolled_back f.store) v w → (p ≡ None → IsStanding tells f w)
+pub base_still : (tells : Bool) (e f : Kept) (v w : Device) (o p : Option Saved) → SameCopies o p → IsStill tells (store_rolled_back e.store) (store_rolled_back f.store) v w → Include f.hidden e.hidden → (p ≡ None → IsStanding tells f w)
     → IsStanding tells (back_to e o) v → IsStanding tells (back_to f p) w
-base_still tells e f v w None None same back now base = now refl
-base_still tells e f v w None (Some b) same back now base = absurd same
-base_still tells e f v w (Some a) None same back now base = absurd same
-base_still tells e f v w (Some a) (Some b) same back now base =
-    standing_still tells (back_to e (Some a)) (back_to f (Some b)) v w base back same.0 same.1
+base_still tells e f v w None None same back more now base = now refl
+base_still tells e f v w None (Some b) same back more now base = absurd same
+base_still tells e f v w (Some a) None same back more now base = absurd same
+base_still tells e f v w (Some a) (Some b) same back more now base =
+    standing_still tells (back_to e (Some a)) (back_to f (Some b)) v w base back same.0 same.1 more
 
 -- The layout that is seen is the one of what the pages mean.
 pub seen_means : (tells : Bool) (e : Kept) (v : Device) (seen : IsSeen tells (seen_by e v)) (told : IsTrue tells) → Means e.store.pages (read_pages e.store v.held) (catalogue_of (seen.layout told).0)
@@ -142,6 +153,15 @@ seen_means tells e v seen told =
 
 pub one_layout : (tells : Bool) (e : Kept) (v : Device) (seen : IsSeen tells (seen_by e v)) (told : IsTrue tells) (cat : Catalogue) → Means e.store.pages (read_pages e.store v.held) cat → cat ≡ catalogue_of (seen.layout told).0
 one_layout tells e v seen told cat means = same_catalogue e.store.pages (read_pages e.store v.held) cat (catalogue_of (seen.layout told).0) means (seen_means tells e v seen told)
+
+-- marks that cover the catalogue of the layout that is seen cover what the pages mean
+pub marked_of : (tells : Bool) (e : Kept) (v : Device) (seen : IsSeen tells (seen_by e v)) → ((told : IsTrue tells) → Cover e.hidden (catalogue_of (seen.layout told).0)) → AreMarked tells e v
+marked_of tells e v seen cover told cat means = subst (Cover e.hidden) (sym (one_layout tells e v seen told cat means)) (cover told)
+
+-- where a command counts the entries of a series that isn't marked, none of its elements is hidden
+pub count_shown : (tells shown : Bool) (command : Command) (e : Kept) (marks : List (List ℕ)) (v : Device) → AreMarked tells e v → Include marks e.hidden → IsUnmarked shown command marks → IsCountShown shown tells command (seen_by e v)
+count_shown tells shown command e marks v marked more unmarked key counts told_so told l shows =
+    marked told (catalogue_of l) (l, record { size = shows.kept.size; bytes = shows.holds told; rules = shows.kept.rules }, refl) key (more key (unmarked told_so key counts))
 
 -- With no transaction, the pages that are read are those of the volume.
 module _ (tells : Bool) (s : Store) (v : Device) (lawful : Lawful tells v) (idle : IsIdle tells s v) (closed : IsClosed s) (told : IsTrue tells) where

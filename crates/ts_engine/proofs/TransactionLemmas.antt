@@ -1,6 +1,6 @@
 -- The steps that begin and end a transaction, and those that it refuses before all else.
 use Rattle.std.specs.declared.alloc.AllocError.{AllocError}
-use Rattle.std.proofs.Common.{◌≡◌, ◌⊎◌, inl, inr, ⊎_elim, ℕ, pos, Bool, true, false, IsTrue, Option, Some, None, IsSome, IfSome, Result, Ok, Err, OnOk, IfErr, IsErrAnd, List, [], length, refl, ap, sym, ◌∙◌, subst, arith}
+use Rattle.std.proofs.Common.{◌≡◌, inl, inr, ⊎_elim, ℕ, pos, Bool, true, false, IsTrue, Option, Some, None, IsSome, IfSome, Result, Ok, Err, OnOk, IfErr, IsErrAnd, List, [], length, refl, ap, sym, ◌∙◌, subst, arith}
 use Rattle.ts_base.specs.declared.fault.StoreFault.{StoreFault}
 use Rattle.ts_base.specs.declared.refusal.Refusal.{Refusal}
 use Rattle.ts_command.specs.declared.command.Command.{Command}
@@ -11,14 +11,13 @@ use Rattle.ts_command.specs.Writing.{is_writing}
 use Rattle.ts_disk.specs.Device.{Device, Lawful, LeavesOnly}
 use Rattle.ts_disk.proofs.Moments.{leaves_map}
 use Rattle.ts_journal.specs.Entry.{Entry, entries_bytes}
-use Rattle.ts_journal.specs.Journal.{pages}
 use Rattle.ts_store.specs.OpenBatch.{AreInPlace, read_pages}
 use Rattle.ts_store.specs.OpenBatch.{rolled_back as store_rolled_back}
 use Rattle.ts_store.proofs.CallerLemmas.{reads_none}
 use Rattle.ts_model.specs.Catalogue.{Catalogue}
 use Rattle.ts_model.specs.Definitions.{Tables}
 use Rattle.ts_space.specs.Directory.{Directory}
-use Rattle.ts_layout.specs.Meaning.{Means}
+use Rattle.ts_layout.specs.Meaning.{Means, catalogue_of}
 use Rattle.ts_answer.specs.Answer.{Answered, ◌>>=◌}
 use Rattle.ts_answer.specs.Reply.{ok_line, number_line, refusal_line}
 use Rattle.ts_answer.specs.State.{State, Transaction, resting, opened, newest, newest_of, begun, outside, inside, carried_out_in, run_outcome, run_answer}
@@ -27,7 +26,10 @@ use Rattle.ts_engine.specs.declared.fault.StepFault.TheVariants.{Disk, Memory, C
 use Rattle.ts_engine.specs.declared.transaction.Saved.{Saved}
 use Rattle.ts_volume.specs.Volume.{MeansCatalogue}
 use Rattle.ts_volume.proofs.CallerLemmas.{holds_still, same_means}
-use Rattle.ts_engine.specs.Engine.{Kept, IsStanding, IsReady, IsAt, back_to}
+use Rattle.ts_answer.specs.View.{IsSeen}
+use Rattle.ts_hidden.specs.Marks.{Cover, Include}
+use Rattle.ts_hidden.proofs.CallerLemmas.{all_included}
+use Rattle.ts_engine.specs.Engine.{Kept, AreMarked, IsStanding, IsReady, IsAt, seen_by, back_to}
 use Rattle.ts_engine.specs.Moves.{BeforeOrAfter}
 use Rattle.ts_engine.specs.Step.{state_after, ChangesNothing, IsCommit, Stepped}
 use Rattle.ts_engine.specs.Change.{reply_of, IsStill, FinishLeaves, Finished, Dropped}
@@ -37,7 +39,7 @@ use Rattle.ts_engine.proofs.BoundaryLemmas.{begins_anew}
 use Rattle.ts_effects.specs.Charged.{CanCount}
 use Rattle.ts_effects.proofs.CallerLemmas.{charges_same, can_count}
 use Rattle.ts_engine.proofs.StateLemmas.{accepted_of, accepted_by, misplaced_refused, run_answers, run_by, some_of}
-use Rattle.ts_engine.proofs.StandLemmas.{kept_same, rules_same, still_none, standing_still, seen_means, means_alike}
+use Rattle.ts_engine.proofs.StandLemmas.{kept_same, rules_same, still_none, standing_still, marked_of, seen_means, means_alike}
 use Rattle.ts_engine.proofs.StepLemmas.{reads_between, never_nothing, stepped_refused, stepped_memory}
 use Rattle.ts_engine.proofs.MovesLemmas.{read_moments, stands, rests, ready_resting, at_resting, at_meant}
 
@@ -77,7 +79,7 @@ module _ (tells : Bool) (command : Command) (e : Kept) (v : Device) (lawful : La
   pub misplaced_step : (f : Kept) → f ≡ e → (refusal : Refusal) → misplaced_in (boundary_of command) (is_writing command) (accepted_by e.saved) ≡ Some refusal → Stepped tells command (Ok tt) (refusal_line refusal) e f v v
   misplaced_step f same refusal misplaced =
       subst (λ (k : Kept). Stepped tells command (Ok tt) (refusal_line refusal) e k v v) (sym same)
-      (stepped_refused tells command e e v v ready (still_none tells e.store v lawful) ready.unspent refl refl refl refl refusal
+      (stepped_refused tells command e e v v ready (still_none tells e.store v lawful) ready.unspent refl refl refl (all_included e.hidden) refl refusal
       (λ told state at.
       run_by state command
       ∙ misplaced_refused command state.base (boundary_of command) refl state.transaction refusal
@@ -87,7 +89,7 @@ module _ (tells : Bool) (command : Command) (e : Kept) (v : Device) (lawful : La
   pub wanting_step : (f : Kept) → f ≡ e → (error : AllocError) → Stepped tells command (Err (Memory error)) [] e f v v
   wanting_step f same error =
       subst (λ (k : Kept). Stepped tells command (Err (Memory error)) [] e k v v) (sym same)
-      (stepped_memory tells command e e v v ready (still_none tells e.store v lawful) ready.unspent refl refl refl refl error)
+      (stepped_memory tells command e e v v ready (still_none tells e.store v lawful) ready.unspent refl refl refl (all_included e.hidden) refl error)
 
   -- a transaction is begun
   module _ (opens : boundary_of command ≡ Some Opens) (none : e.saved ≡ None) (f : Kept) (begins : Begins e f) where
@@ -110,7 +112,8 @@ module _ (tells : Bool) (command : Command) (e : Kept) (v : Device) (lawful : La
         record {
           idle = ready.idle;
           seen = ready.seen;
-          base = standing_still tells e (back_to begun_now (Some begins.copies)) v v (record { idle = ready.idle; seen = ready.seen }) back_same begins.definitions begins.lists;
+          marked = ready.marked;
+          base = standing_still tells e (back_to begun_now (Some begins.copies)) v v (record { idle = ready.idle; seen = ready.seen; marked = ready.marked }) back_same begins.definitions begins.lists (all_included e.hidden);
           closed = λ wrong. absurd (cc);
           small = record {
             few = omega (arith, begins.accepted);
@@ -176,7 +179,7 @@ module _ (tells : Bool) (command : Command) (e : Kept) (v : Device) (lawful : La
           batch = refl;
           free = refl;
           no_fault = refl;
-        }) refl refl)
+        }) refl refl (all_included e.hidden))
         (record { transaction = refl; base_free = refl }) rolls.charges ready.unspent
 
     run_rolled : (state : State) → IsAt tells e state v → run_outcome (Ok command) state ≡ Ok (ok_line, resting state.base)
@@ -241,20 +244,30 @@ module _ (tells : Bool) (command : Command) (e : Kept) (v : Device) (lawful : La
       same_lists : ended.space.lists ≡ e.space.lists
       same_lists = ap (λ (s : Directory). s.lists) finished.space
 
+      seen_done : IsSeen tells (seen_by done_now w)
+      seen_done = record {
+        kept = rules_same e done_now ready.seen.kept same_definitions same_lists finished.count finished.free;
+        layout = λ told.
+            let known = ready.seen.layout told in (
+              known.0,
+              record {
+                kept = kept_same e done_now known.0 known.1.kept same_definitions same_lists finished.count finished.free;
+                holds = λ t. holds_still (read_pages e.store v.held) (read_pages ended.store w.held) known.0 (finished.alike t) (known.1.holds t);
+              },
+            );
+      }
+
+      marked_done : AreMarked tells done_now w
+      unfolding seen_done
+      marked_done =
+          marked_of tells done_now w seen_done
+          (λ told. subst (λ (marks : List (List ℕ)). Cover marks (catalogue_of (ready.seen.layout told).0)) (sym finished.hidden) (ready.marked told (catalogue_of (ready.seen.layout told).0) (seen_means tells e v ready.seen told)))
+
       standing_done : IsStanding tells done_now w
       standing_done = record {
         idle = record { over = finished.over; batch = finished.batch; kept_free = finished.kept_free ∙ sym finished.free };
-        seen = record {
-          kept = rules_same e done_now ready.seen.kept same_definitions same_lists finished.count finished.free;
-          layout = λ told.
-              let known = ready.seen.layout told in (
-                known.0,
-                record {
-                  kept = kept_same e done_now known.0 known.1.kept same_definitions same_lists finished.count finished.free;
-                  holds = λ t. holds_still (read_pages e.store v.held) (read_pages ended.store w.held) known.0 (finished.alike t) (known.1.holds t);
-                },
-              );
-        };
+        seen = seen_done;
+        marked = marked_done;
       }
 
       ready_done : IsReady tells done_now w
@@ -263,7 +276,7 @@ module _ (tells : Bool) (command : Command) (e : Kept) (v : Device) (lawful : La
           (charges_same e.charges ended.charges e.tables.definitions ended.tables.definitions e.space ended.space ready.charges finished.charges same_definitions same_lists) (finished.spent ∙ ready.unspent)
 
       at_done : (told : IsTrue tells) (state : State) → IsAt tells e state v → IsAt tells done_now (resting (newest state)) w
-      unfolding standing_done
+      unfolding standing_done seen_done
       at_done told state at =
           at_resting tells done_now w later ready_done refl told (newest state)
           (subst (Means ended.store.pages (read_pages ended.store w.held)) (sym (stands tells e v ready told state at)) (seen_means tells done_now w standing_done.seen told))
@@ -327,7 +340,8 @@ module _ (tells : Bool) (command : Command) (e : Kept) (v : Device) (lawful : La
         let still = still_uncommitted ended commits_all.finished.fault.0 in
         subst (λ (k : Kept). Stepped tells command (Err (Memory error)) [] e k v w) (sym commits_all.now)
         (stepped_memory tells command e f' v w ready still (commits_all.finished.fault.0.spent ∙ ready.unspent)
-        (ap (λ (t : Tables). t.definitions) commits_all.finished.tables) (ap (λ (s : Directory). s.lists) commits_all.finished.space) commits_all.finished.charges commits_all.stays error)
+        (ap (λ (t : Tables). t.definitions) commits_all.finished.tables) (ap (λ (s : Directory). s.lists) commits_all.finished.space) commits_all.finished.charges
+        (subst (λ (marks : List (List ℕ)). Include marks e.hidden) (sym commits_all.finished.hidden) (all_included e.hidden)) commits_all.stays error)
     uncommitted_step (Closed faults) commits_all = absurd commits_all.finished.fault
 
 -- the same, where the fault is passed on

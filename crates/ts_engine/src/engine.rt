@@ -16,6 +16,7 @@ use ts_base::Reply;
 use ts_command::Command;
 use ts_container::{Charges, SurveyFault};
 use ts_disk::Volume;
+use ts_hidden::Marks;
 use ts_model::Defs;
 use ts_page::Page;
 use ts_space::Space;
@@ -28,6 +29,8 @@ pub struct Engine {
     pub(crate) defs: Defs,
     pub(crate) space: Space,
     pub(crate) charges: Charges,
+    /// The series that may have hidden elements.
+    pub(crate) hidden: Marks,
     /// Where a transaction is open, what a rollback goes back to.
     pub(crate) saved: Option<Saved>,
     /// Room to read a page.
@@ -46,6 +49,7 @@ impl Model for Engine {
       tables = e.defs;
       space = e.space;
       charges = e.charges;
+      hidden = e.hidden;
       saved = e.saved;
       spent =
           e.spent;

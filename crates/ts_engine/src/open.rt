@@ -5,8 +5,9 @@ ghost use Rattle.ts_journal.specs.Moment.{OnlyReads};
 ghost use Rattle.ts_store.specs.OpenBatch.{IsIdle, IsClosed, IsReadOver, read_pages, contents_over};
 ghost use Rattle.ts_store.specs.Undisturbed.{Undisturbed};
 ghost use Rattle.ts_container.specs.declared.fault.SurveyFault.TheVariants.{Failed};
-ghost use Rattle.ts_container.specs.Survey.{IsFound, IfRefused};
+ghost use Rattle.ts_container.specs.Survey.{IsFound, IsMarked, IfRefused};
 ghost use Rattle.ts_volume.specs.FirstBad.{IsFirstBad};
+ghost use Rattle.ts_hidden.specs.Marks.{AreOfSlots};
 ghost use Rattle.ts_engine.specs.Engine.{NothingIsPending};
 ghost use Rattle.ts_engine.specs.Start.{Opened, ReadFault, read_as};
 
@@ -14,6 +15,8 @@ use crate::engine::Engine;
 use std::alloc::Global;
 use ts_container::{Charges, SurveyFault, Surveyed, survey};
 use ts_disk::Volume;
+use ts_hidden::Marks;
+use ts_layout::names_stand_in_slots;
 use ts_page::{PAGE, Page};
 use ts_recover::{RecoverFault, recover};
 use ts_store::{On, Store};
@@ -27,7 +30,8 @@ pub(crate) fn open<V: Volume>(alloc: Global, vol: &mut V) -> Result<Engine, Surv
     let charges = Charges::new(alloc)?;
     let mut store = read_journal(alloc, vol)?;
     let surveyed = survey_over(alloc, &mut store, vol)?;
-    settle(alloc, store, surveyed, charges, vol)
+    let hidden = Marks::of_slots(alloc, &surveyed.defs, &surveyed.hidden)?;
+    settle(alloc, store, surveyed, hidden, charges, vol)
 }
 
 // The store of a volume, none of whose pages can be taken yet.
@@ -68,6 +72,9 @@ fn survey_over<V: Volume>(
     ensures found { IfOk result
         (λ s. IsFound V.tells store.new.pages
         (contents_over store.new (V.device vol.new)) s.defs.definitions s.space s.free.items) }
+    ensures marked { IfOk result
+        (λ s. IsMarked V.tells store.new.pages
+        (contents_over store.new (V.device vol.new)) s.defs.definitions s.space s.free.items s.hidden.items) }
     ensures fault { IfErr result (λ fault. ReadFault V.tells fault (V.device vol.old) (V.device vol.new)) }
     ensures no_fault { OnOk result ((V.device vol.new).faults ≡ (V.device vol.old).faults) }
     ensures others { OnlyReads V.tells (V.device vol.old) (V.device vol.new) }
@@ -90,6 +97,9 @@ fn survey_on<V: Volume>(
     ensures found { IfOk result
         (λ s. IsFound V.tells count
         (contents_over store.old (V.device vol.old)) s.defs.definitions s.space s.free.items) }
+    ensures marked { IfOk result
+        (λ s. IsMarked V.tells count
+        (contents_over store.old (V.device vol.old)) s.defs.definitions s.space s.free.items s.hidden.items) }
     ensures refused { IfErr result (λ e. IfRefused e (λ page. IsTrue V.tells
         → IsFirstBad count (read_pages store.old (V.device vol.old).held) page)) }
     ensures cause { IsErrOf result Failed → Rose (V.device vol.old).faults (V.device vol.new).faults }
@@ -109,6 +119,7 @@ fn settle<V: Volume>(
     alloc: Global,
     mut store: Store,
     surveyed: Surveyed,
+    hidden: Marks,
     mut charges: Charges,
     vol: &mut V,
 ) -> Result<Engine, SurveyFault>
@@ -116,6 +127,10 @@ fn settle<V: Volume>(
     requires closed { IsClosed store }
     requires found { IsFound V.tells store.pages
         (contents_over store (V.device vol.old)) surveyed.defs.definitions surveyed.space surveyed.free.items }
+    requires marked { IsMarked V.tells store.pages
+        (contents_over store (V.device vol.old)) surveyed.defs.definitions surveyed.space surveyed.free.items
+        surveyed.hidden.items }
+    requires slots { AreOfSlots surveyed.defs.definitions surveyed.hidden.items hidden }
     ensures opened { Opened V.tells result (V.device vol.old) (V.device vol.new) }
 {
     let Surveyed {
@@ -124,6 +139,8 @@ fn settle<V: Volume>(
         free,
         ..
     } = surveyed;
+    // The series of a key is the one in the slot that has it.
+    names_stand_in_slots();
     // A directory has a list for each slot.
     let _slots = space.places(0);
     charges.count(&defs, &space);
@@ -134,6 +151,7 @@ fn settle<V: Volume>(
             defs,
             space,
             charges,
+            hidden,
             saved: None,
             page: Page::zero(),
             spent: None,

@@ -252,7 +252,8 @@ fn read_on<P: Pages>(
         (sees defs.now.definitions space.now (P.contents pages.old)) (P.contents pages.new) }
     ensures undisturbed { P.undisturbed pages.old pages.new }
 {
-    if let Some(came) = read(alloc, pages, page, defs, space, command, out) {
+    // Nothing is known of hidden elements there.
+    if let Some(came) = read(alloc, pages, page, defs, space, command, false, out) {
         return came;
     }
     if let Some(came) = combine(alloc, pages, page, defs, space, command, out) {

@@ -4,6 +4,7 @@ ghost use Rattle.ts_command.specs.Form.{HasForm};
 ghost use Rattle.ts_answer.specs.View.{view, IsSeen};
 ghost use Rattle.ts_answer.specs.CarriedOut.{CarriedOut, ReadOut};
 ghost use Rattle.ts_answer.specs.Reading.{IsKept, IsSaid};
+ghost use Rattle.ts_hidden.specs.Hidden.{IsCountShown};
 ghost use Rattle.ts_model.specs.declared.kind.Kind.{Kind as TheKind};
 ghost use Rattle.ts_model.specs.declared.kind.Kind.TheVariants.{Pattern as Patterns, Calendar as Calendars};
 ghost use Rattle.ts_model.specs.Definitions.{container_slots};
@@ -110,7 +111,8 @@ pub(crate) fn edit<P: Pages>(
     Some(came)
 }
 
-/// Answers a command that reads a series; none for another one. `page` is room to read one.
+/// Answers a command that reads a series; none for another one. `shown` may tell that no element is hidden of the series
+/// whose entries it counts. `page` is room to read one.
 pub(crate) fn read<P: Pages>(
     alloc: Global,
     pages: &mut P,
@@ -118,9 +120,12 @@ pub(crate) fn read<P: Pages>(
     defs: &Defs,
     space: &Space,
     command: &Command,
+    shown: bool,
     out: &mut Reply,
 ) -> Option<Result<(), Stop>>
     requires seen { IsSeen P.tells (view defs.now.definitions space.now (P.contents pages.old)) }
+    requires shown { IsCountShown shown P.tells command.now
+        (view defs.now.definitions space.now (P.contents pages.old)) }
     requires form { HasForm command.now }
     requires empty { out.old ≡ [] }
     ensures read { IfSome result
@@ -141,21 +146,21 @@ pub(crate) fn read<P: Pages>(
         }
         Command::GetNthElem { key, index } => {
             let one = Choice::Number(*index);
-            read_entries(pages, page, defs, space, key, one, out)
+            read_entries(pages, page, defs, space, key, one, shown, out)
         }
         Command::Clip { key, from, to } => {
             let range = Choice::Range(*from, *to);
-            read_entries(pages, page, defs, space, key, range, out)
+            read_entries(pages, page, defs, space, key, range, false, out)
         }
         Command::RollingClip { set, from, to } => {
             clip_set(alloc, pages, page, defs, space, set, *from, *to, out)
         }
         Command::ClipCount { key, stamp, count } => {
             let some = Choice::Count(*stamp, *count);
-            read_entries(pages, page, defs, space, key, some, out)
+            read_entries(pages, page, defs, space, key, some, false, out)
         }
         Command::ClipGetCount { key, from, to } => {
-            count_clip(pages, page, defs, space, key, *from, *to, out)
+            count_clip(pages, page, defs, space, key, *from, *to, shown, out)
         }
         _ => return None,
     };
@@ -205,7 +210,7 @@ pub(crate) fn combine<P: Pages>(
                 alloc, pages, page, defs, space, both, first, second, *from, *to, out,
             )
         }
-        Command::Lag { key, by } => lag(alloc, pages, page, defs, space, key, *by, out),
+        Command::Lag { key, by } => lag(pages, page, defs, space, key, *by, out),
         _ => return None,
     };
     Some(came)

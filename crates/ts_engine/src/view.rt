@@ -27,7 +27,7 @@ use ts_views::{View, ViewPages};
 impl Engine {
     /// Carries out a command on the pages of a view over those of the volume, which are only read, and gives its effect
     /// in memory, which isn't applied. What it changes goes into `changes` and `free`. The open batch of the store is
-    /// to be dropped behind it.
+    /// to be dropped behind it. Nothing is known of hidden elements there.
     pub fn carry_out_in_view<V: Volume>(
         &mut self,
         rt: &(impl Threads + Sync),
@@ -168,6 +168,7 @@ fn carry_out_in_pages<'x, P: Pages>(
         &view.space,
         charges,
         command,
+        false,
         out,
     )
 }

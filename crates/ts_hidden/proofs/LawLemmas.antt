@@ -1,23 +1,21 @@
 -- No command but HideElem hides an element.
-use Rattle.std.proofs.Common.{◌≡◌, ℕ, ℤ, Option, Some, None, Ok, Err, List, refl, ap, sym, subst}
-use Rattle.std.specs.FinMap.{empty, entries, from_entries, insert, remove}
+use Rattle.std.proofs.Common.{◌≡◌, ℕ, ℤ, Option, Some, None, Ok, Err, List, refl, ap, sym, subst, ◌∙◌}
+use Rattle.std.specs.FinMap.{entries, from_entries, get}
 use Rattle.ts_row.specs.declared.value.Literal.{Literal}
 use Rattle.ts_row.specs.Row.{Row}
-use Rattle.ts_row.specs.Element.{Element}
 use Rattle.ts_command.specs.declared.command.Command.{Command}
 use Rattle.ts_command.specs.declared.command.Command.TheVariants as commands
 use Rattle.ts_sheets.specs.Range.{without_range}
 use Rattle.ts_model.specs.declared.kind.Kind.{Kind}
 use Rattle.ts_model.specs.declared.kind.Kind.TheVariants as kinds
 use Rattle.ts_model.specs.Catalogue.{Elements, Series, Catalogue, columns_of}
-use Rattle.ts_model.specs.Kinds.{without}
 use Rattle.ts_rolling.specs.Keys.{window_key, control_key}
 use Rattle.ts_rolling.specs.Sets.{live}
 use Rattle.ts_answer.specs.Answer.{Answered, Tried, ◌>>=◌, outcome, carried_out, create_row_type, drop_definition, create_pattern, turn_pattern, join_patterns, show_pattern, create_calendar, join_calendars, show_calendar, count_starts, find_start, list_starts, create_container, container_usage, create_irregular, create_regular, drop_series, list_series, put_element, put_no_dups, insert_element, update_element, delete_element, delete_range, mark_element, get_element, get_last_element, count_elements, get_first_element, get_nth_element, clip_series, count_clip, clip_counted, join_series, lag_series, aggregate_by, aggregate_range, aggregate_all, running_values, apply_exprs, wanted, a_row, with_element, without_one}
 use Rattle.ts_answer.specs.Rolling.{roll_create, roll_put, roll_clip, roll_drop, without_windows}
 use Rattle.ts_hidden.specs.Hidden.{AreShown, IsShown, OnlyHideElemHides, hidden_by}
 use Rattle.ts_hidden.proofs.ElementLemmas.{none_hidden, put_shown, removed_shown, listed_shown, some_listed}
-use Rattle.ts_hidden.proofs.SpareLemmas.{Spares, whole, series_put, edited, gone, row_shown}
+use Rattle.ts_hidden.proofs.SpareLemmas.{Spares, there_is, whole, series_put, edited, gone, row_shown}
 use Rattle.ts_hidden.proofs.RollingLemmas.{windows_gone, window_made}
 
 -- what is left at an address, and between two stamps
@@ -74,7 +72,7 @@ module _ (q : List ℕ) (cat : Catalogue) where
   put : (key : List ℕ) (series : Series) (stamp : ℤ) (literals : List Literal) → (is : wanted key cat.series ≡ Ok series) → (row : Row) → a_row (columns_of cat series) literals ≡ Ok row → Spares q cat (with_element key series stamp row cat)
   put key series stamp literals is row given = edited q cat key series _ is (λ same none. put_shown series.elements stamp row (row_shown _ literals row given) none)
 
-  each : (command : Command) → (hidden_by command ≡ Some q → ⊥) → Tries (carried_out command cat)
+  each : (command : Command) → (hidden_by command ≡ Some q → (s : Series) → get cat.series q ≡ Some s → ⊥) → Tries (carried_out command cat)
   unfolding Tries carried_out create_row_type create_pattern turn_pattern join_patterns show_pattern create_calendar join_calendars show_calendar count_starts find_start list_starts create_container container_usage create_irregular drop_series list_series put_element put_no_dups insert_element update_element delete_element delete_range mark_element get_element get_last_element count_elements get_first_element get_nth_element clip_series count_clip clip_counted join_series lag_series aggregate_by aggregate_range aggregate_all running_values apply_exprs
   each (commands.CreateRowType name stamp columns) other = tries _ _ (λ good a. tries _ _ (λ has b. tries _ _ (λ done c. whole q cat)))
   each (commands.DropRowType name) other = idle_goes kinds.RowType name
@@ -105,7 +103,7 @@ module _ (q : List ℕ) (cat : Catalogue) where
   each (commands.UpdElem key stamp literals) other = tries _ _ (λ series is. tries _ _ (λ row a. tries _ _ (λ at b. tries _ _ (λ old c. put key series at literals is row a))))
   each (commands.DelElem key stamp) other = tries _ _ (λ series is. edited q cat key series _ is (λ same none. one_less _ series.elements none))
   each (commands.DelClip key from to) other = tries _ _ (λ series is. edited q cat key series _ is (λ same none. range_less from to series.elements none))
-  each (commands.HideElem key stamp) other = tries _ _ (λ series is. tries _ _ (λ marks a. tries _ _ (λ at b. tries _ _ (λ row c. edited q cat key series _ is (λ same none. absurd (other (ap Some (sym same))))))))
+  each (commands.HideElem key stamp) other = tries _ _ (λ series is. tries _ _ (λ marks a. tries _ _ (λ at b. tries _ _ (λ row c. edited q cat key series _ is (λ same none. absurd (other (ap Some (sym same)) series (ap (get cat.series) same ∙ there_is key cat.series series is)))))))
   each (commands.RevealElem key stamp) other = tries _ _ (λ series is. tries _ _ (λ marks a. tries _ _ (λ at b. tries _ _ (λ row c. edited q cat key series _ is (λ same none. put_shown series.elements at _ refl none)))))
   each (commands.GetElem key stamp) other = tries _ _ (λ series a. whole q cat)
   each (commands.GetLastElem key) other = tries _ _ (λ series a. whole q cat)
@@ -137,6 +135,11 @@ module _ (q : List ℕ) (cat : Catalogue) where
   came_to (Ok own) answered is keeps = let same : own ≡ answered = cc in subst (λ (a : Answered). Spares q cat a.1) same keeps
   came_to (Err refusal) answered is keeps = absurd (cc)
 
-pub only_hide_elem_hides : OnlyHideElemHides
+-- the same where the series that it names isn't there
+pub no_other_hides : (cat : Catalogue) (command : Command) (answered : Answered) (key : List ℕ) → outcome (Ok command) cat ≡ Ok answered
+    → (hidden_by command ≡ Some key → (s : Series) → get cat.series key ≡ Some s → ⊥) → IsShown key cat → IsShown key answered.1
 unfolding outcome
-only_hide_elem_hides cat command answered key is other = came_to key cat (carried_out command cat) answered is (each key cat command other)
+no_other_hides cat command answered key is other = came_to key cat (carried_out command cat) answered is (each key cat command other)
+
+pub only_hide_elem_hides : OnlyHideElemHides
+only_hide_elem_hides cat command answered key is other = no_other_hides cat command answered key is (λ hides s there. other hides)

@@ -6,7 +6,6 @@ use Rattle.std.specs.Prelude.{bytes_eq}
 use Rattle.std.proofs.lemmas.List.Folds.{list_any-append}
 use Rattle.std.proofs.lemmas.Slice.Eq.{bytes_eq-Decides}
 use Rattle.ts_model.specs.declared.def.Def.{Def}
-use Rattle.ts_model.specs.declared.def.Def.TheVariants as defs
 use Rattle.ts_model.specs.declared.kind.Kind.TheVariants as kinds
 use Rattle.ts_model.specs.Definitions.{Definitions, SeriesDef, of_series, at_slot, def_at}
 use Rattle.ts_layout.proofs.CallerLemmas.{at_slot-map}

@@ -9,7 +9,7 @@ use Rattle.ts_model.specs.declared.kind.Kind.TheVariants as kinds
 use Rattle.ts_model.specs.Catalogue.{name_cmp, Named, Elements, Series, Catalogue}
 use Rattle.ts_model.specs.Kinds.{with_named, without}
 use Rattle.ts_model.proofs.OrderLemmas.{total, ties-same}
-use Rattle.ts_answer.specs.Answer.{Answered, Tried, ◌>>=◌, known, wanted, a_row, row_or_mismatch, with_elements}
+use Rattle.ts_answer.specs.Answer.{known, wanted, a_row, row_or_mismatch, with_elements}
 use Rattle.ts_hidden.specs.Hidden.{AreShown, IsShown}
 
 -- what a test that was passed says
@@ -17,7 +17,7 @@ known_is : {X : Type 0} (o : Option X) (x : X) → known o ≡ Ok x → o ≡ So
 known_is (Some y) x is = let same : y ≡ x = cc in ap Some same
 known_is None x is = absurd (cc)
 
-there_is : (name : List ℕ) (named : Named Series) (x : Series) → wanted name named ≡ Ok x → get named name ≡ Some x
+pub there_is : (name : List ℕ) (named : Named Series) (x : Series) → wanted name named ≡ Ok x → get named name ≡ Some x
 unfolding wanted
 there_is name named x is = known_is (get named name) x is
 

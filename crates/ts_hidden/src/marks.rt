@@ -1,12 +1,13 @@
 // The keys of series that may have hidden elements.
-ghost use Rattle.std.specs.Prelude.{◌≡◌, ◌<◌, true, Some, IfOk, OnOk, slice_index_or};
+ghost use Rattle.std.specs.Prelude.{◌≡◌, ◌<◌, true, false, Some, IfOk, OnOk, slice_index_or};
 ghost use Rattle.ts_model.specs.Definitions.{SeriesDef, at_slot, series_slots};
-ghost use Rattle.ts_hidden.specs.Marks.{is_marked, Include, IsNoted, IsUnmarked, AreOfSlots};
+ghost use Rattle.ts_hidden.specs.Marks.{is_marked, Include, IsNoted, IsNowhere, IsUnmarked, AreOfSlots};
 
 use std::alloc::{AllocError, Global};
 use std::marker::Model;
 use ts_base::Key;
 use ts_command::Command;
+use ts_layout::names_stand_in_slots;
 use ts_model::{Def, Defs, Kind};
 
 /// The keys of series that may have hidden elements.
@@ -61,13 +62,13 @@ impl Marks {
         Ok(())
     }
 
-    /// Marks the series of which a command hides an element.
-    pub fn note(&mut self, command: &Command) -> Result<(), AllocError>
-        ensures noted { OnOk result (IsNoted command.now self.new) }
+    /// Marks the series of which a command hides an element, where there is such a series.
+    pub fn note(&mut self, command: &Command, defs: &Defs) -> Result<(), AllocError>
+        ensures noted { OnOk result (IsNoted command.now defs.now.definitions self.new) }
         ensures more { Include self.new self.old }
     {
         match command {
-            Command::HideElem { key, .. } => self.mark(key),
+            Command::HideElem { key, .. } => self.mark_named(key, defs),
             _ => Ok(()),
         }
     }
@@ -80,6 +81,19 @@ impl Marks {
             Command::GetNthElem { key, .. } | Command::ClipGetCount { key, .. } => !self.has(key),
             _ => false,
         }
+    }
+
+    // Marks a series if it is there: so there are no more marks than keys that series have had.
+    fn mark_named(&mut self, key: &Key, defs: &Defs) -> Result<(), AllocError>
+        ensures marked { OnOk result (is_marked key.now self.new ≡ false → IsNowhere key.now defs.now.definitions) }
+        ensures more { Include self.new self.old }
+    {
+        // A series has its key in a slot.
+        names_stand_in_slots();
+        if defs.find(Kind::Series, key.as_slice()).is_none() {
+            return Ok(());
+        }
+        self.mark(key)
     }
 
     // Marks the series in a slot.

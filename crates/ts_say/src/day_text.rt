@@ -1,9 +1,10 @@
 // The text of the day on which stamps lie.
-ghost use Rattle.std.specs.Prelude.{◌≡◌, ◌/◌, ◌%◌, ◌<◌, ◌∷◌, ◌++◌, [], take, OnOk};
+ghost use Rattle.std.specs.Prelude.{◌≡◌, ◌/◌, ◌%◌, ◌<◌, ◌∷◌, ◌++◌, [], take, OnOk, OnErr};
 ghost use Rattle.ts_base.specs.Moment.{IsStamp, day_of, clock_of};
 ghost use Rattle.ts_base.specs.StampText.{stamp_text};
 ghost use Rattle.ts_base.specs.StampText;
 ghost use Rattle.ts_say.specs.Day.{day_text, time_text, IsMidnight};
+ghost use Rattle.ts_row.specs.Printed.{Extends};
 
 use crate::pairs::two_digits;
 use std::alloc::AllocError;
@@ -11,6 +12,9 @@ use ts_base::{Reply, Stamp};
 
 /// The units of a day.
 const DAY: i64 = 8_640_000_000;
+
+/// The units of a second.
+const SECOND: u64 = 100_000;
 
 /// The day of the stamp that was said last, as text: of stamps on the same day only the time is made anew.
 #[derive(Drop)]
@@ -71,9 +75,36 @@ impl DayText {
 
     /// Says a stamp, and a blank behind it.
     pub(crate) fn say(&mut self, out: &mut Reply, stamp: Stamp) -> Result<(), AllocError>
-        ensures { OnOk result (out.new ≡ out.old ++ stamp_text stamp ++ 32 ∷ []) }
+        ensures ok { OnOk result (out.new ≡ out.old ++ stamp_text stamp ++ 32 ∷ []) }
+        ensures err { OnErr result (Extends out.old out.new) }
     {
         let clock = self.turn(stamp);
+        if clock % SECOND > 0 {
+            return self.say_fraction(out, clock);
+        }
+        self.say_time(out, clock)
+    }
+
+    // Says the same day, at a time that isn't whole seconds. It stands by itself, since most stamps are whole seconds:
+    // the digits behind the point are then all 0.
+    #[inline(never)]
+    fn say_fraction(&mut self, out: &mut Reply, clock: u64) -> Result<(), AllocError>
+        requires { clock < 8_640_000_000 }
+        ensures ok { OnOk result (out.new ≡ out.old
+            ++ day_text (day_of self.old.midnight) ++ (time_text clock ++ 32 ∷ [])) }
+        ensures err { OnErr result (Extends out.old out.new) }
+    {
+        self.say_time(out, clock)
+    }
+
+    // Says the same day, at so many units since its midnight, and a blank behind it.
+    #[inline(always)]
+    fn say_time(&mut self, out: &mut Reply, clock: u64) -> Result<(), AllocError>
+        requires { clock < 8_640_000_000 }
+        ensures ok { OnOk result (out.new ≡ out.old
+            ++ day_text (day_of self.old.midnight) ++ (time_text clock ++ 32 ∷ [])) }
+        ensures err { OnErr result (Extends out.old out.new) }
+    {
         *self = self.with_time(clock);
         out.extend_from_slice(&self.text)
     }

@@ -1,6 +1,7 @@
 // What a reply says.
-ghost use Rattle.std.specs.Prelude.{◌≡◌, ◌++◌, OnOk};
+ghost use Rattle.std.specs.Prelude.{◌≡◌, ◌++◌, OnOk, OnErr};
 ghost use Rattle.ts_answer.specs.Reply.{ok_line, refusal_line};
+ghost use Rattle.ts_row.specs.Printed.{Extends};
 
 use crate::say_values::say_number;
 use std::alloc::AllocError;
@@ -9,7 +10,8 @@ use ts_base::{Refusal, Reply};
 /// Says that a command was carried out.
 #[tactic(auto, unfolding(ts_answer::specs::Reply::ok_line))]
 pub fn say_ok(out: &mut Reply) -> Result<(), AllocError>
-    ensures { OnOk result (out.new ≡ out.old ++ ok_line) }
+    ensures ok { OnOk result (out.new ≡ out.old ++ ok_line) }
+    ensures err { OnErr result (Extends out.old out.new) }
 {
     out.extend_from_slice(b"ok\n")
 }
@@ -17,7 +19,8 @@ pub fn say_ok(out: &mut Reply) -> Result<(), AllocError>
 /// Says why a command was refused.
 #[tactic(auto, unfolding(ts_answer::specs::Reply::refusal_line))]
 pub fn say_refusal(out: &mut Reply, refusal: &Refusal) -> Result<(), AllocError>
-    ensures { OnOk result (out.new ≡ out.old ++ refusal_line refusal.now) }
+    ensures ok { OnOk result (out.new ≡ out.old ++ refusal_line refusal.now) }
+    ensures err { OnErr result (Extends out.old out.new) }
 {
     out.extend_from_slice(b"error ")?;
     say_number(out, refusal.code() as u64)?;

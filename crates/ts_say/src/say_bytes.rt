@@ -1,5 +1,6 @@
 // Values said straight from the bytes of their columns, at most 32.
-ghost use Rattle.std.specs.Prelude.{◌≡◌, ◌≤◌, ◌+◌, [], ◌∷◌, ◌++◌, nat_lt, if◌then◌else◌, IsTrue, OnOk, Some, length};
+ghost use Rattle.std.specs.Prelude.{◌≡◌, ◌≤◌, ◌+◌, [], ◌∷◌, ◌++◌, nat_lt, if◌then◌else◌, IsTrue, Some, length};
+ghost use Rattle.std.specs.Prelude.{OnOk, OnErr};
 ghost use Rattle.std.specs.List.{list_all};
 ghost use Rattle.std.specs.Int.{cast_signed, from_be_bytes, w64, w128};
 ghost use Rattle.ts_row.specs.declared.value.Value.{Value};
@@ -7,7 +8,7 @@ ghost use Rattle.ts_row.specs.declared.value.Value.TheVariants.{Null};
 ghost use Rattle.ts_row.specs.RowType.{column_width, is_kind, scale_of, width_of};
 ghost use Rattle.ts_row.specs.Row.{Values};
 ghost use Rattle.ts_row.specs.Decoding.{text_in, filled_in, value_in, values_in};
-ghost use Rattle.ts_row.specs.Printed.{number_text, value_text, values_text};
+ghost use Rattle.ts_row.specs.Printed.{number_text, value_text, values_text, Extends};
 
 use crate::say_numbers::{say_long_decimal, say_short_decimal, say_whole};
 use crate::say_values::say_quoted;
@@ -24,8 +25,9 @@ pub(crate) fn say_values_in(
 ) -> Result<(), AllocError>
     requires kinds { IsTrue (list_all (λ c. is_kind c.kind) columns.now) }
     requires size { length bytes.now ≡ width_of columns.now }
-    ensures { OnOk result ((values : Values) → values_in columns.now bytes.now ≡ Some values
+    ensures ok { OnOk result ((values : Values) → values_in columns.now bytes.now ≡ Some values
         → out.new ≡ out.old ++ values_text columns.now values ++ 10 ∷ []) }
+    ensures err { OnErr result (Extends out.old out.new) }
 {
     let Some((column, others)) = columns.split_first() else {
         return out.push(b'\n');
@@ -42,8 +44,9 @@ pub(crate) fn say_values_in(
 fn say_each_in(out: &mut Reply, columns: &[Column], bytes: &[u8]) -> Result<(), AllocError>
     requires kinds { IsTrue (list_all (λ c. is_kind c.kind) columns.now) }
     requires size { length bytes.now ≡ width_of columns.now }
-    ensures { OnOk result ((values : Values) → values_in columns.now bytes.now ≡ Some values
+    ensures ok { OnOk result ((values : Values) → values_in columns.now bytes.now ≡ Some values
         → out.new ≡ out.old ++ values_text columns.now values ++ 10 ∷ []) }
+    ensures err { OnErr result (Extends out.old out.new) }
 {
     let Some((column, columns)) = columns.split_first() else {
         return out.push(b'\n');
@@ -56,7 +59,7 @@ fn say_each_in(out: &mut Reply, columns: &[Column], bytes: &[u8]) -> Result<(), 
     say_each_in(out, columns, rest)
 }
 
-// Says the value that the bytes of a column are, and a byte behind it.
+// Says the value that the bytes of a column are, and a byte behind it; behind what was said, whatever the bytes are.
 fn say_value_in(
     out: &mut Reply,
     kind: &ColumnKind,
@@ -65,8 +68,10 @@ fn say_value_in(
 ) -> Result<(), AllocError>
     requires kind { IsTrue (is_kind kind.now) }
     requires size { length cell.now ≡ column_width kind.now }
-    ensures { OnOk result ((value : Value) → value_in kind.now cell.now ≡ Some value
+    ensures ok { OnOk result ((value : Value) → value_in kind.now cell.now ≡ Some value
         → out.new ≡ out.old ++ value_text (scale_of kind.now) value ++ behind ∷ []) }
+    ensures front { OnOk result (Extends out.old out.new) }
+    ensures err { OnErr result (Extends out.old out.new) }
 {
     let Some((flag, bytes)) = cell.split_first() else {
         return Ok(());
@@ -80,7 +85,8 @@ fn say_value_in(
 // Says NULL, and a byte behind it.
 #[inline(never)]
 fn say_null(out: &mut Reply, behind: u8) -> Result<(), AllocError>
-    ensures { OnOk result (out.new ≡ out.old ++ value_text 0 Null ++ behind ∷ []) }
+    ensures ok { OnOk result (out.new ≡ out.old ++ value_text 0 Null ++ behind ∷ []) }
+    ensures err { OnErr result (Extends out.old out.new) }
 {
     out.extend_from_slice(b"null")?;
     out.push(behind)
@@ -96,8 +102,10 @@ fn say_filled_in(
 ) -> Result<(), AllocError>
     requires kind { IsTrue (is_kind kind.now) }
     requires size { length bytes.now + 1 ≡ column_width kind.now }
-    ensures { OnOk result ((value : Value) → filled_in kind.now bytes.now ≡ Some value
+    ensures ok { OnOk result ((value : Value) → filled_in kind.now bytes.now ≡ Some value
         → out.new ≡ out.old ++ value_text (scale_of kind.now) value ++ behind ∷ []) }
+    ensures front { OnOk result (Extends out.old out.new) }
+    ensures err { OnErr result (Extends out.old out.new) }
 {
     match kind {
         ColumnKind::SmallInt => {
@@ -128,9 +136,10 @@ fn say_decimal_before(
     requires digits { digits ≤ MOST_DIGITS }
     requires scale { scale ≤ digits }
     requires size { length bytes.now ≡ (if nat_lt SHORT_DIGITS digits then 16 else 8) }
-    ensures { OnOk result (out.new ≡ out.old ++ number_text scale (if nat_lt SHORT_DIGITS digits
+    ensures ok { OnOk result (out.new ≡ out.old ++ number_text scale (if nat_lt SHORT_DIGITS digits
         then cast_signed w128 (from_be_bytes w128 bytes.now) else cast_signed w64 (from_be_bytes w64 bytes.now))
         ++ behind ∷ []) }
+    ensures err { OnErr result (Extends out.old out.new) }
 {
     say_decimal_in(out, digits, scale, bytes)?;
     out.push(behind)
@@ -140,8 +149,10 @@ fn say_decimal_before(
 #[inline(never)]
 fn say_text_before(out: &mut Reply, most: u16, bytes: &[u8], behind: u8) -> Result<(), AllocError>
     requires { length bytes.now ≡ most + 1 }
-    ensures { OnOk result ((value : Value) → text_in most bytes.now ≡ Some value
+    ensures ok { OnOk result ((value : Value) → text_in most bytes.now ≡ Some value
         → out.new ≡ out.old ++ value_text 0 value ++ behind ∷ []) }
+    ensures front { OnOk result (Extends out.old out.new) }
+    ensures err { OnErr result (Extends out.old out.new) }
 {
     say_text_in(out, most, bytes)?;
     out.push(behind)
@@ -152,8 +163,9 @@ fn say_decimal_in(out: &mut Reply, digits: u16, scale: u16, bytes: &[u8]) -> Res
     requires digits { digits ≤ MOST_DIGITS }
     requires scale { scale ≤ digits }
     requires size { length bytes.now ≡ (if nat_lt SHORT_DIGITS digits then 16 else 8) }
-    ensures { OnOk result (out.new ≡ out.old ++ number_text scale (if nat_lt SHORT_DIGITS digits
+    ensures ok { OnOk result (out.new ≡ out.old ++ number_text scale (if nat_lt SHORT_DIGITS digits
         then cast_signed w128 (from_be_bytes w128 bytes.now) else cast_signed w64 (from_be_bytes w64 bytes.now))) }
+    ensures err { OnErr result (Extends out.old out.new) }
 {
     if digits > SHORT_DIGITS {
         say_long_decimal(out, sixteen_bytes(bytes), scale as u32)
@@ -186,8 +198,10 @@ fn eight_bytes(bytes: &[u8]) -> i64
 // Says the text that a length, bytes and zeros are.
 fn say_text_in(out: &mut Reply, most: u16, bytes: &[u8]) -> Result<(), AllocError>
     requires { length bytes.now ≡ most + 1 }
-    ensures { OnOk result ((value : Value) → text_in most bytes.now ≡ Some value
+    ensures ok { OnOk result ((value : Value) → text_in most bytes.now ≡ Some value
         → out.new ≡ out.old ++ value_text 0 value) }
+    ensures front { OnOk result (Extends out.old out.new) }
+    ensures err { OnErr result (Extends out.old out.new) }
 {
     let Some((length, bytes)) = bytes.split_first() else {
         return Ok(());

@@ -1,10 +1,11 @@
 // Entries of a series, said in lines.
-ghost use Rattle.std.specs.Prelude.{◌≡◌, ◌++◌, List, length, None, OnOk, Some};
+ghost use Rattle.std.specs.Prelude.{◌≡◌, ◌++◌, List, length, None, OnOk, OnErr, Some};
 ghost use Rattle.ts_row.specs.declared.kind.Column.{Column};
 ghost use Rattle.ts_row.specs.Row.{Row as TheRow};
 ghost use Rattle.ts_row.specs.RowType.{width_of};
 ghost use Rattle.ts_entry.specs.Entry.{AreSeenBytes};
 ghost use Rattle.ts_answer.specs.Reply.{entry_line};
+ghost use Rattle.ts_row.specs.Printed.{Extends};
 
 use crate::day_text::DayText;
 use crate::say_bytes::say_values_in;
@@ -71,8 +72,9 @@ fn say_seen(
     row: &[u8],
 ) -> Result<(), AllocError>
     requires { length row.now ≡ width_of kind.now.columns }
-    ensures { OnOk result ((r : TheRow) → AreSeenBytes kind.now.columns row.now r
+    ensures ok { OnOk result ((r : TheRow) → AreSeenBytes kind.now.columns row.now r
         → out.new ≡ out.old ++ entry_line kind.now.columns (stamp, Some r)) }
+    ensures err { OnErr result (Extends out.old out.new) }
 {
     day.say(out, stamp)?;
     say_values_in(out, kind.columns(), row)
@@ -81,7 +83,8 @@ fn say_seen(
 // Says a stamp at which there is no element.
 #[tactic(auto, unfolding(ts_answer::specs::Reply::entry_line))]
 fn say_blank(out: &mut Reply, day: &mut DayText, stamp: Stamp) -> Result<(), AllocError>
-    ensures { OnOk result ((columns : List Column) → out.new ≡ out.old ++ entry_line columns (stamp, None)) }
+    ensures ok { OnOk result ((columns : List Column) → out.new ≡ out.old ++ entry_line columns (stamp, None)) }
+    ensures err { OnErr result (Extends out.old out.new) }
 {
     day.say(out, stamp)?;
     out.extend_from_slice(b"none\n")

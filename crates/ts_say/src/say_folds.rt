@@ -1,7 +1,7 @@
 // What an aggregate list makes of elements, and rows of numbers, said in lines.
-ghost use Rattle.std.specs.Prelude.{◌≡◌, ◌↔◌, ◌⊎◌, ◌≤◌, [], ◌∷◌, ◌++◌, All, IsTrue, OnOk, length, map};
+ghost use Rattle.std.specs.Prelude.{◌≡◌, ◌↔◌, ◌⊎◌, ◌≤◌, [], ◌∷◌, ◌++◌, All, IsTrue, OnOk, OnErr, length, map};
 ghost use Rattle.ts_expr.specs.Binding.{most_scale};
-ghost use Rattle.ts_row.specs.Printed.{value_text};
+ghost use Rattle.ts_row.specs.Printed.{value_text, Extends};
 ghost use Rattle.ts_running.specs.Operands.{value_if_any, numbers_row};
 ghost use Rattle.ts_answer.specs.Reply.{scaled_text, folded_line, folded_text, series_folded_line};
 
@@ -90,7 +90,8 @@ impl<'a> NumbersVisitor for FoldedLines<'a> {
 #[tactic(auto, unfolding(ts_answer::specs::Reply::folded_text))]
 pub fn say_folded(out: &mut Reply, scales: &[u8], stamp: Stamp, row: &Row) -> Result<(), AllocError>
     requires { All (λ s. s ≤ most_scale) scales.now }
-    ensures { OnOk result (out.new ≡ out.old ++ folded_text scales.now ((stamp, row.now) ∷ [])) }
+    ensures ok { OnOk result (out.new ≡ out.old ++ folded_text scales.now ((stamp, row.now) ∷ [])) }
+    ensures err { OnErr result (Extends out.old out.new) }
 {
     let mut day = DayText::first();
     say_folded_line(out, &mut day, scales, stamp, row)?;
@@ -106,7 +107,8 @@ pub fn say_series_folded(
     row: &Row,
 ) -> Result<(), AllocError>
     requires { All (λ s. s ≤ most_scale) scales.now }
-    ensures { OnOk result (out.new ≡ out.old ++ series_folded_line scales.now (key.now, row.now)) }
+    ensures ok { OnOk result (out.new ≡ out.old ++ series_folded_line scales.now (key.now, row.now)) }
+    ensures err { OnErr result (Extends out.old out.new) }
 {
     out.extend_from_slice(b"'")?;
     say_quoted(out, key.as_slice())?;
@@ -125,7 +127,8 @@ fn say_folded_line(
     row: &Row,
 ) -> Result<(), AllocError>
     requires { All (λ s. s ≤ most_scale) scales.now }
-    ensures { OnOk result (out.new ≡ out.old ++ folded_line scales.now (stamp, row.now)) }
+    ensures ok { OnOk result (out.new ≡ out.old ++ folded_line scales.now (stamp, row.now)) }
+    ensures err { OnErr result (Extends out.old out.new) }
 {
     day.say(out, stamp)?;
     say_scaled_values(out, scales, row.values())?;
@@ -142,7 +145,8 @@ fn say_numbers_line(
     numbers: &[Option<i128>],
 ) -> Result<(), AllocError>
     requires { All (λ s. s ≤ most_scale) scales.now }
-    ensures { OnOk result (out.new ≡ out.old ++ folded_line scales.now (stamp, numbers_row numbers.now)) }
+    ensures ok { OnOk result (out.new ≡ out.old ++ folded_line scales.now (stamp, numbers_row numbers.now)) }
+    ensures err { OnErr result (Extends out.old out.new) }
 {
     day.say(out, stamp)?;
     say_scaled_numbers(out, scales, numbers)?;
@@ -156,7 +160,8 @@ fn say_scaled_numbers(
     numbers: &[Option<i128>],
 ) -> Result<(), AllocError>
     requires { All (λ s. s ≤ most_scale) scales.now }
-    ensures { OnOk result (out.new ≡ out.old ++ scaled_text scales.now (map value_if_any numbers.now)) }
+    ensures ok { OnOk result (out.new ≡ out.old ++ scaled_text scales.now (map value_if_any numbers.now)) }
+    ensures err { OnErr result (Extends out.old out.new) }
 {
     let Some((scale, scales)) = scales.split_first() else {
         return Ok(());
@@ -175,7 +180,8 @@ fn say_scaled_numbers(
 // Says a number with so many digits after the point, or NULL where there is none.
 fn say_number_if_any(out: &mut Reply, number: Option<i128>, scale: u32) -> Result<(), AllocError>
     requires { scale ≤ most_scale }
-    ensures { OnOk result (out.new ≡ out.old ++ value_text scale (value_if_any number)) }
+    ensures ok { OnOk result (out.new ≡ out.old ++ value_text scale (value_if_any number)) }
+    ensures err { OnErr result (Extends out.old out.new) }
 {
     match number {
         None => out.extend_from_slice(b"null"),
@@ -186,7 +192,8 @@ fn say_number_if_any(out: &mut Reply, number: Option<i128>, scale: u32) -> Resul
 // Says values, each number with as many digits after the point as its scale, with commas between them.
 fn say_scaled_values(out: &mut Reply, scales: &[u8], values: &[Value]) -> Result<(), AllocError>
     requires { All (λ s. s ≤ most_scale) scales.now }
-    ensures { OnOk result (out.new ≡ out.old ++ scaled_text scales.now values.now) }
+    ensures ok { OnOk result (out.new ≡ out.old ++ scaled_text scales.now values.now) }
+    ensures err { OnErr result (Extends out.old out.new) }
 {
     let Some((scale, scales)) = scales.split_first() else {
         return Ok(());

@@ -1,6 +1,6 @@
 // Numbers with digits after a point.
-ghost use Rattle.std.specs.Prelude.{◌≡◌, ◌≤◌, ◌<◌, ◌∷◌, ◌++◌, [], decimal, drop, OnOk};
-ghost use Rattle.ts_row.specs.Printed.{number_text, size_text};
+ghost use Rattle.std.specs.Prelude.{◌≡◌, ◌≤◌, ◌<◌, ◌∷◌, ◌++◌, [], decimal, drop, OnOk, OnErr};
+ghost use Rattle.ts_row.specs.Printed.{number_text, size_text, Extends};
 ghost use Rattle.ts_expr.specs.Binding.{most_scale};
 
 use crate::pairs::two_digits;
@@ -11,7 +11,8 @@ use ts_row::SHORT_DIGITS;
 
 /// Says a whole number, and a byte behind it.
 pub(crate) fn say_whole(out: &mut Reply, number: i64, behind: u8) -> Result<(), AllocError>
-    ensures { OnOk result (out.new ≡ out.old ++ number_text 0 number ++ behind ∷ []) }
+    ensures ok { OnOk result (out.new ≡ out.old ++ number_text 0 number ++ behind ∷ []) }
+    ensures err { OnErr result (Extends out.old out.new) }
 {
     if number >= 0 && number < 100_000_000 {
         return say_few_digits(out, number as u32, behind);
@@ -22,7 +23,8 @@ pub(crate) fn say_whole(out: &mut Reply, number: i64, behind: u8) -> Result<(), 
 // Says a whole number of any sign and size, and a byte behind it.
 #[inline(never)]
 fn say_many_digits(out: &mut Reply, number: i64, behind: u8) -> Result<(), AllocError>
-    ensures { OnOk result (out.new ≡ out.old ++ number_text 0 number ++ behind ∷ []) }
+    ensures ok { OnOk result (out.new ≡ out.old ++ number_text 0 number ++ behind ∷ []) }
+    ensures err { OnErr result (Extends out.old out.new) }
 {
     let mut buffer = Buffer::new();
     out.extend_from_slice(buffer.format(number).as_bytes())?;
@@ -32,7 +34,8 @@ fn say_many_digits(out: &mut Reply, number: i64, behind: u8) -> Result<(), Alloc
 // Says the digits of a number, at most eight, and a byte behind them, in one piece of a length that the compiler knows.
 fn say_few_digits(out: &mut Reply, number: u32, behind: u8) -> Result<(), AllocError>
     requires { number < 100_000_000 }
-    ensures { OnOk result (out.new ≡ out.old ++ decimal number ++ behind ∷ []) }
+    ensures ok { OnOk result (out.new ≡ out.old ++ decimal number ++ behind ∷ []) }
+    ensures err { OnErr result (Extends out.old out.new) }
 {
     if number < 100 {
         return say_two_digits(out, number, behind);
@@ -49,7 +52,8 @@ fn say_few_digits(out: &mut Reply, number: u32, behind: u8) -> Result<(), AllocE
 // Says a number of one digit or two, and a byte behind it.
 fn say_two_digits(out: &mut Reply, number: u32, behind: u8) -> Result<(), AllocError>
     requires { number < 100 }
-    ensures { OnOk result (out.new ≡ out.old ++ decimal number ++ behind ∷ []) }
+    ensures ok { OnOk result (out.new ≡ out.old ++ decimal number ++ behind ∷ []) }
+    ensures err { OnErr result (Extends out.old out.new) }
 {
     let [a, b] = two_digits(number);
     if number < 10 {
@@ -62,7 +66,8 @@ fn say_two_digits(out: &mut Reply, number: u32, behind: u8) -> Result<(), AllocE
 fn say_four_digits(out: &mut Reply, number: u32, behind: u8) -> Result<(), AllocError>
     requires least { 100 ≤ number }
     requires most { number < 10_000 }
-    ensures { OnOk result (out.new ≡ out.old ++ decimal number ++ behind ∷ []) }
+    ensures ok { OnOk result (out.new ≡ out.old ++ decimal number ++ behind ∷ []) }
+    ensures err { OnErr result (Extends out.old out.new) }
 {
     let [a, b] = two_digits(number / 100);
     let [c, d] = two_digits(number % 100);
@@ -76,7 +81,8 @@ fn say_four_digits(out: &mut Reply, number: u32, behind: u8) -> Result<(), Alloc
 fn say_six_digits(out: &mut Reply, number: u32, behind: u8) -> Result<(), AllocError>
     requires least { 10_000 ≤ number }
     requires most { number < 1_000_000 }
-    ensures { OnOk result (out.new ≡ out.old ++ decimal number ++ behind ∷ []) }
+    ensures ok { OnOk result (out.new ≡ out.old ++ decimal number ++ behind ∷ []) }
+    ensures err { OnErr result (Extends out.old out.new) }
 {
     let [a, b] = two_digits(number / 10_000);
     let [c, d] = two_digits(number / 100 % 100);
@@ -91,7 +97,8 @@ fn say_six_digits(out: &mut Reply, number: u32, behind: u8) -> Result<(), AllocE
 fn say_eight_digits(out: &mut Reply, number: u32, behind: u8) -> Result<(), AllocError>
     requires least { 1_000_000 ≤ number }
     requires most { number < 100_000_000 }
-    ensures { OnOk result (out.new ≡ out.old ++ decimal number ++ behind ∷ []) }
+    ensures ok { OnOk result (out.new ≡ out.old ++ decimal number ++ behind ∷ []) }
+    ensures err { OnErr result (Extends out.old out.new) }
 {
     let [a, b] = two_digits(number / 1_000_000);
     let [c, d] = two_digits(number / 10_000 % 100);
@@ -106,7 +113,8 @@ fn say_eight_digits(out: &mut Reply, number: u32, behind: u8) -> Result<(), Allo
 /// Says a number of 64 bits with so many digits after the point.
 pub(crate) fn say_short_decimal(out: &mut Reply, number: i64, scale: u32) -> Result<(), AllocError>
     requires { scale ≤ SHORT_DIGITS }
-    ensures { OnOk result (out.new ≡ out.old ++ number_text scale number) }
+    ensures ok { OnOk result (out.new ≡ out.old ++ number_text scale number) }
+    ensures err { OnErr result (Extends out.old out.new) }
 {
     if number < 0 {
         out.push(b'-')?;
@@ -118,7 +126,8 @@ pub(crate) fn say_short_decimal(out: &mut Reply, number: i64, scale: u32) -> Res
 #[tactic(auto, using(ts_row::proofs::LiteralLemmas::powers, crate::proofs::NumberLemmas::bounds))]
 fn say_short_size(out: &mut Reply, size: u64, scale: u32) -> Result<(), AllocError>
     requires { scale ≤ SHORT_DIGITS }
-    ensures { OnOk result (out.new ≡ out.old ++ size_text scale size) }
+    ensures ok { OnOk result (out.new ≡ out.old ++ size_text scale size) }
+    ensures err { OnErr result (Extends out.old out.new) }
 {
     if scale == 0 {
         return say_digits(out, size);
@@ -130,7 +139,8 @@ fn say_short_size(out: &mut Reply, size: u64, scale: u32) -> Result<(), AllocErr
 /// Says a number of 128 bits with so many digits after the point.
 pub(crate) fn say_long_decimal(out: &mut Reply, number: i128, scale: u32) -> Result<(), AllocError>
     requires { scale ≤ most_scale }
-    ensures { OnOk result (out.new ≡ out.old ++ number_text scale number) }
+    ensures ok { OnOk result (out.new ≡ out.old ++ number_text scale number) }
+    ensures err { OnErr result (Extends out.old out.new) }
 {
     if number < 0 {
         out.push(b'-')?;
@@ -142,7 +152,8 @@ pub(crate) fn say_long_decimal(out: &mut Reply, number: i128, scale: u32) -> Res
 #[tactic(auto, using(ts_row::proofs::LiteralLemmas::powers, crate::proofs::NumberLemmas::bounds))]
 fn say_long_size(out: &mut Reply, size: u128, scale: u32) -> Result<(), AllocError>
     requires { scale ≤ most_scale }
-    ensures { OnOk result (out.new ≡ out.old ++ size_text scale size) }
+    ensures ok { OnOk result (out.new ≡ out.old ++ size_text scale size) }
+    ensures err { OnErr result (Extends out.old out.new) }
 {
     if scale == 0 {
         return say_digits(out, size);
@@ -153,7 +164,8 @@ fn say_long_size(out: &mut Reply, size: u128, scale: u32) -> Result<(), AllocErr
 
 // Says a number before the point, and behind it the digits of another without its first.
 fn say_parts<I: Integer>(out: &mut Reply, whole: I, behind: I) -> Result<(), AllocError>
-    ensures { OnOk result (out.new ≡ out.old ++ I.text whole ++ 46 ∷ drop 1 (I.text behind)) }
+    ensures ok { OnOk result (out.new ≡ out.old ++ I.text whole ++ 46 ∷ drop 1 (I.text behind)) }
+    ensures err { OnErr result (Extends out.old out.new) }
 {
     say_digits(out, whole)?;
     out.push(b'.')?;
@@ -166,7 +178,8 @@ fn say_parts<I: Integer>(out: &mut Reply, whole: I, behind: I) -> Result<(), All
 
 // Says the digits of a number.
 fn say_digits<I: Integer>(out: &mut Reply, number: I) -> Result<(), AllocError>
-    ensures { OnOk result (out.new ≡ out.old ++ I.text number) }
+    ensures ok { OnOk result (out.new ≡ out.old ++ I.text number) }
+    ensures err { OnErr result (Extends out.old out.new) }
 {
     let mut buffer = Buffer::new();
     out.extend_from_slice(buffer.format(number).as_bytes())

@@ -1,11 +1,11 @@
 // Rows of many lines, said from their values.
-ghost use Rattle.std.specs.Prelude.{◌≡◌, ◌↔◌, ◌⊎◌, ◌≤◌, ◌++◌, IsTrue, IfSome, OnOk, length, replicate};
+ghost use Rattle.std.specs.Prelude.{◌≡◌, ◌↔◌, ◌⊎◌, ◌≤◌, ◌++◌, IsTrue, IfSome, OnOk, OnErr, length, replicate};
 ghost use Rattle.std.specs.List.{list_all};
 ghost use Rattle.std.specs.Option.{option_copied};
 ghost use Rattle.ts_row.specs.declared.value.Value.TheVariants.{Null};
 ghost use Rattle.ts_row.specs.RowType.{is_kind};
 ghost use Rattle.ts_row.specs.Row.{fits, visible};
-ghost use Rattle.ts_row.specs.Printed.{number_text, value_text, values_text};
+ghost use Rattle.ts_row.specs.Printed.{number_text, value_text, values_text, Extends};
 ghost use Rattle.ts_combine.specs.Combine.{values_or_nulls};
 ghost use Rattle.ts_expr.specs.Binding.{most_scale};
 ghost use Rattle.ts_answer.specs.Reply.{element_line};
@@ -26,7 +26,8 @@ pub fn say_line(
     stamp: Stamp,
     row: &Row,
 ) -> Result<(), AllocError>
-    ensures { OnOk result (out.new ≡ out.old ++ element_line kind.now.columns (stamp, row.now)) }
+    ensures ok { OnOk result (out.new ≡ out.old ++ element_line kind.now.columns (stamp, row.now)) }
+    ensures err { OnErr result (Extends out.old out.new) }
 {
     day.say(out, stamp)?;
     say_values(out, kind.columns(), row.values())?;
@@ -43,13 +44,14 @@ pub fn say_joined(
     first: Option<&Row>,
     second: Option<&Row>,
 ) -> Result<(), AllocError>
-    ensures { OnOk result (IfSome first.entry (λ r. IsTrue (fits first_kind.now.columns r.now))
+    ensures ok { OnOk result (IfSome first.entry (λ r. IsTrue (fits first_kind.now.columns r.now))
         → IfSome second.entry (λ r. IsTrue (fits second_kind.now.columns r.now))
         → out.new ≡ out.old ++ element_line (first_kind.now.columns ++ second_kind.now.columns) (
           stamp,
           visible (values_or_nulls (length first_kind.now.columns) (option_copied first.entry)
               ++ values_or_nulls (length second_kind.now.columns) (option_copied second.entry)),
         )) }
+    ensures err { OnErr result (Extends out.old out.new) }
 {
     day.say(out, stamp)?;
     say_side(out, first_kind.columns(), first)?;
@@ -61,8 +63,9 @@ pub fn say_joined(
 // Says the values of a row, or NULL for each column where there is none.
 fn say_side(out: &mut Reply, columns: &[Column], row: Option<&Row>) -> Result<(), AllocError>
     requires { IsTrue (list_all (λ c. is_kind c.kind) columns.now) }
-    ensures { OnOk result (out.new ≡ out.old
+    ensures ok { OnOk result (out.new ≡ out.old
         ++ values_text columns.now (values_or_nulls (length columns.now) (option_copied row.entry))) }
+    ensures err { OnErr result (Extends out.old out.new) }
 {
     match row {
         Some(row) => say_values(out, columns, row.values()),
@@ -73,7 +76,8 @@ fn say_side(out: &mut Reply, columns: &[Column], row: Option<&Row>) -> Result<()
 // Says values, each as its column prints it, with commas between them.
 fn say_values(out: &mut Reply, columns: &[Column], values: &[Value]) -> Result<(), AllocError>
     requires { IsTrue (list_all (λ c. is_kind c.kind) columns.now) }
-    ensures { OnOk result (out.new ≡ out.old ++ values_text columns.now values.now) }
+    ensures ok { OnOk result (out.new ≡ out.old ++ values_text columns.now values.now) }
+    ensures err { OnErr result (Extends out.old out.new) }
 {
     let Some((column, columns)) = columns.split_first() else {
         return Ok(());
@@ -98,7 +102,8 @@ fn is_end(columns: &[Column], values: &[Value]) -> bool
 
 // Says NULL for each column.
 fn say_nulls(out: &mut Reply, columns: &[Column]) -> Result<(), AllocError>
-    ensures { OnOk result (out.new ≡ out.old ++ values_text columns.now (replicate (length columns.now) Null)) }
+    ensures ok { OnOk result (out.new ≡ out.old ++ values_text columns.now (replicate (length columns.now) Null)) }
+    ensures err { OnErr result (Extends out.old out.new) }
 {
     let Some((_, columns)) = columns.split_first() else {
         return Ok(());
@@ -114,7 +119,8 @@ fn say_nulls(out: &mut Reply, columns: &[Column]) -> Result<(), AllocError>
 /// Says a value, a number with so many digits after the point.
 pub(crate) fn say_value(out: &mut Reply, value: &Value, scale: u32) -> Result<(), AllocError>
     requires { scale ≤ most_scale }
-    ensures { OnOk result (out.new ≡ out.old ++ value_text scale value.now) }
+    ensures ok { OnOk result (out.new ≡ out.old ++ value_text scale value.now) }
+    ensures err { OnErr result (Extends out.old out.new) }
 {
     match value {
         Value::Null => out.extend_from_slice(b"null"),
@@ -130,7 +136,8 @@ pub(crate) fn say_value(out: &mut Reply, value: &Value, scale: u32) -> Result<()
 /// Says a number with so many digits after the point.
 pub(crate) fn say_scaled(out: &mut Reply, number: i128, scale: u32) -> Result<(), AllocError>
     requires { scale ≤ most_scale }
-    ensures { OnOk result (out.new ≡ out.old ++ number_text scale number) }
+    ensures ok { OnOk result (out.new ≡ out.old ++ number_text scale number) }
+    ensures err { OnErr result (Extends out.old out.new) }
 {
     match i64::try_from(number) {
         Ok(short) if scale <= SHORT_DIGITS as u32 => say_short_decimal(out, short, scale),

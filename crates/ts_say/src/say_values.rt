@@ -1,9 +1,9 @@
 // What a reply says of counts, stamps, elements and series.
-ghost use Rattle.std.specs.Prelude.{◌≡◌, ◌++◌, IsTrue, IfSome, OnOk, decimal, map, option_to_list};
+ghost use Rattle.std.specs.Prelude.{◌≡◌, ◌++◌, IsTrue, IfSome, OnOk, OnErr, decimal, map, option_to_list};
 ghost use Rattle.std.specs.List.{flat_map};
 ghost use Rattle.ts_base.specs.StampText.{stamp_text};
 ghost use Rattle.ts_row.specs.Row.{fits};
-ghost use Rattle.ts_row.specs.Printed.{quoted};
+ghost use Rattle.ts_row.specs.Printed.{quoted, Extends};
 ghost use Rattle.ts_answer.specs.Reply.{count_line, counts_line, number_line, stamp_line, element_line, elements_text};
 ghost use Rattle.ts_answer.specs.Reply.{series_line, shape_word};
 
@@ -15,7 +15,8 @@ use ts_row::{Row, RowType};
 /// Says a count.
 #[tactic(auto, unfolding(ts_answer::specs::Reply::count_line))]
 pub fn say_count(out: &mut Reply, count: u64) -> Result<(), AllocError>
-    ensures { OnOk result (out.new ≡ out.old ++ count_line count) }
+    ensures ok { OnOk result (out.new ≡ out.old ++ count_line count) }
+    ensures err { OnErr result (Extends out.old out.new) }
 {
     out.extend_from_slice(b"ok ")?;
     say_number(out, count)?;
@@ -25,7 +26,8 @@ pub fn say_count(out: &mut Reply, count: u64) -> Result<(), AllocError>
 /// Says two counts.
 #[tactic(auto, unfolding(ts_answer::specs::Reply::counts_line))]
 pub fn say_counts(out: &mut Reply, first: u64, second: u64) -> Result<(), AllocError>
-    ensures { OnOk result (out.new ≡ out.old ++ counts_line first second) }
+    ensures ok { OnOk result (out.new ≡ out.old ++ counts_line first second) }
+    ensures err { OnErr result (Extends out.old out.new) }
 {
     out.extend_from_slice(b"ok ")?;
     say_number(out, first)?;
@@ -37,7 +39,8 @@ pub fn say_counts(out: &mut Reply, first: u64, second: u64) -> Result<(), AllocE
 /// Says a number with its sign.
 #[tactic(auto, unfolding(ts_answer::specs::Reply::number_line))]
 pub fn say_signed(out: &mut Reply, number: i64) -> Result<(), AllocError>
-    ensures { OnOk result (out.new ≡ out.old ++ number_line number) }
+    ensures ok { OnOk result (out.new ≡ out.old ++ number_line number) }
+    ensures err { OnErr result (Extends out.old out.new) }
 {
     out.extend_from_slice(b"ok ")?;
     let mut buffer = Buffer::new();
@@ -48,7 +51,8 @@ pub fn say_signed(out: &mut Reply, number: i64) -> Result<(), AllocError>
 /// Says a stamp that was sought, or that of a change.
 #[tactic(auto, unfolding(ts_answer::specs::Reply::stamp_line))]
 pub fn say_stamp(out: &mut Reply, stamp: Stamp) -> Result<(), AllocError>
-    ensures { OnOk result (out.new ≡ out.old ++ stamp_line stamp) }
+    ensures ok { OnOk result (out.new ≡ out.old ++ stamp_line stamp) }
+    ensures err { OnErr result (Extends out.old out.new) }
 {
     out.extend_from_slice(b"ok ")?;
     say_stamp_text(out, stamp)?;
@@ -65,7 +69,8 @@ pub fn say_element(
     row: &Row,
 ) -> Result<(), AllocError>
     requires { IsTrue (fits kind.now.columns row.now) }
-    ensures { OnOk result (out.new ≡ out.old ++ element_line kind.now.columns (stamp, row.now)) }
+    ensures ok { OnOk result (out.new ≡ out.old ++ element_line kind.now.columns (stamp, row.now)) }
+    ensures err { OnErr result (Extends out.old out.new) }
 {
     let mut text = Bytes::new(alloc);
     kind.print(row, &mut text)?;
@@ -84,8 +89,9 @@ pub fn say_row(
     row: Option<Row>,
 ) -> Result<(), AllocError>
     requires { IfSome row (λ r. IsTrue (fits kind.now.columns r)) }
-    ensures { OnOk result (out.new ≡ out.old
+    ensures ok { OnOk result (out.new ≡ out.old
         ++ elements_text kind.now.columns (map (λ r. (stamp, r)) (option_to_list row))) }
+    ensures err { OnErr result (Extends out.old out.new) }
 {
     match row {
         Some(row) => say_found(alloc, out, kind, Some((stamp, row))),
@@ -102,7 +108,8 @@ pub fn say_found(
     found: Option<(Stamp, Row)>,
 ) -> Result<(), AllocError>
     requires { IfSome found (λ e. IsTrue (fits kind.now.columns e.1)) }
-    ensures { OnOk result (out.new ≡ out.old ++ elements_text kind.now.columns (option_to_list found)) }
+    ensures ok { OnOk result (out.new ≡ out.old ++ elements_text kind.now.columns (option_to_list found)) }
+    ensures err { OnErr result (Extends out.old out.new) }
 {
     match found {
         Some((stamp, row)) => {
@@ -121,7 +128,8 @@ pub fn say_series(
     is_regular: bool,
     count: u64,
 ) -> Result<(), AllocError>
-    ensures { OnOk result (out.new ≡ out.old ++ series_line (key.now, is_regular, count)) }
+    ensures ok { OnOk result (out.new ≡ out.old ++ series_line (key.now, is_regular, count)) }
+    ensures err { OnErr result (Extends out.old out.new) }
 {
     out.extend_from_slice(b"'")?;
     say_quoted(out, key)?;
@@ -134,7 +142,8 @@ pub fn say_series(
 
 // Says what a series is called by how its elements lie.
 fn say_shape(out: &mut Reply, is_regular: bool) -> Result<(), AllocError>
-    ensures { OnOk result (out.new ≡ out.old ++ shape_word is_regular) }
+    ensures ok { OnOk result (out.new ≡ out.old ++ shape_word is_regular) }
+    ensures err { OnErr result (Extends out.old out.new) }
 {
     if is_regular {
         out.extend_from_slice(b"regular")
@@ -145,7 +154,8 @@ fn say_shape(out: &mut Reply, is_regular: bool) -> Result<(), AllocError>
 
 /// Says a number in decimal digits.
 pub(crate) fn say_number(out: &mut Reply, number: u64) -> Result<(), AllocError>
-    ensures { OnOk result (out.new ≡ out.old ++ decimal number) }
+    ensures ok { OnOk result (out.new ≡ out.old ++ decimal number) }
+    ensures err { OnErr result (Extends out.old out.new) }
 {
     let mut buffer = Buffer::new();
     out.extend_from_slice(buffer.format(number).as_bytes())
@@ -153,7 +163,8 @@ pub(crate) fn say_number(out: &mut Reply, number: u64) -> Result<(), AllocError>
 
 /// Says a stamp.
 pub(crate) fn say_stamp_text(out: &mut Reply, stamp: Stamp) -> Result<(), AllocError>
-    ensures { OnOk result (out.new ≡ out.old ++ stamp_text stamp) }
+    ensures ok { OnOk result (out.new ≡ out.old ++ stamp_text stamp) }
+    ensures err { OnErr result (Extends out.old out.new) }
 {
     let mut text = [0u8; 25];
     stamp.write_into(&mut text);
@@ -162,7 +173,8 @@ pub(crate) fn say_stamp_text(out: &mut Reply, stamp: Stamp) -> Result<(), AllocE
 
 /// Says a text, each quote in it twice.
 pub(crate) fn say_quoted(out: &mut Reply, text: &[u8]) -> Result<(), AllocError>
-    ensures { OnOk result (out.new ≡ out.old ++ flat_map quoted text.now) }
+    ensures ok { OnOk result (out.new ≡ out.old ++ flat_map quoted text.now) }
+    ensures err { OnErr result (Extends out.old out.new) }
 {
     for byte in text {
         if *byte == b'\'' {

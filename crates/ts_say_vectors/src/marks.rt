@@ -4,7 +4,7 @@ use std::test::Fail;
 use ts_base::{Key, Stamp};
 use ts_command::Command;
 use ts_hidden::{Marks, only_hide_elem_hides};
-use ts_model::Defs;
+use ts_model::{Def, Defs, Kind};
 
 // The key of a series.
 fn key(alloc: Global, text: &[u8]) -> Result<Key, Fail> {
@@ -12,6 +12,22 @@ fn key(alloc: Global, text: &[u8]) -> Result<Key, Fail> {
         Some(key) => Ok(key),
         None => Err(Fail::from("no key")),
     }
+}
+
+// The definitions of a store that has an irregular series of this key alone.
+fn with_series(alloc: Global, text: &[u8]) -> Result<Defs, Fail> {
+    let mut defs = Defs::new(alloc);
+    let key = key(alloc, text)?;
+    defs.reserve(Kind::Series)?;
+    if defs.find(Kind::Series, key.as_slice()).is_none() {
+        let series = Def::Series {
+            key,
+            container: 0,
+            regular: None,
+        };
+        defs.set(Kind::Series, 0, Some(series));
+    }
+    Ok(defs)
 }
 
 // The marks of a store without series, and that of the series x.
@@ -41,10 +57,10 @@ fn counting(alloc: Global) -> Result<Vec<Command>, Fail> {
     Ok(commands)
 }
 
-// Notes each of the commands.
-fn note_all(marks: &mut Marks, commands: &[Command]) -> Result<(), AllocError> {
+// Notes each of the commands, in a store with these definitions.
+fn note_all(marks: &mut Marks, commands: &[Command], defs: &Defs) -> Result<(), AllocError> {
     for command in commands {
-        marks.note(command)?;
+        marks.note(command, defs)?;
     }
     Ok(())
 }
@@ -66,8 +82,9 @@ fn a_series_is_marked_by_its_key(rt: HostRuntime) -> Result<(), Fail> {
 fn a_series_is_marked_by_its_first_hidden_element(rt: HostRuntime) -> Result<(), Fail> {
     let mut marks = marked(rt.alloc())?;
     let (hides, counts) = (hiding(rt.alloc())?, counting(rt.alloc())?);
+    note_all(&mut marks, &hides, &Defs::new(rt.alloc()))?;
     let was = all_unmarked(&marks, &counts);
-    note_all(&mut marks, &hides)?;
+    note_all(&mut marks, &hides, &with_series(rt.alloc(), b"y")?)?;
     assert!(rt; was && !all_unmarked(&marks, &counts));
     Ok(())
 }

@@ -11,6 +11,7 @@ use Rattle.ts_journal.proofs.CallerLemmas.{over_pages}
 use Rattle.ts_store.specs.OpenBatch.{State as Store, IsIdle, committed_pages, read_pages, contents_over}
 use Rattle.ts_store.specs.OpenBatch.{rolled_back as store_rolled_back}
 use Rattle.ts_store.proofs.CallerLemmas.{over_kept}
+use Rattle.ts_model.specs.Catalogue.{Catalogue}
 use Rattle.ts_layout.specs.Meaning.{HoldsLayout, Means}
 use Rattle.ts_command.specs.declared.command.Command.{Command}
 use Rattle.ts_base.specs.declared.fault.Trouble.{Trouble}
@@ -51,6 +52,9 @@ module _ (tells : Bool) (v w : Device) (size : w.size ≡ v.size) (held : w.held
         (known.0, record { kept = known.1.kept; holds = λ t. subst (λ (l : List ℕ). HoldsLayout (read_pages e.store l) known.0) (sym held) (known.1.holds t) });
   }
 
+  held_means : (e : Kept) (cat : Catalogue) → Means e.store.pages (read_pages e.store w.held) cat → Means e.store.pages (read_pages e.store v.held) cat
+  held_means e cat = subst (λ (l : List ℕ). Means e.store.pages (read_pages e.store l) cat) held
+
   small_same : (s back : Store) (o : Option Saved) → IfSome o (λ saved. IsSmall saved.accepted (contents_over back v) (contents_over s v))
       → IfSome o (λ saved. IsSmall saved.accepted (contents_over back w) (contents_over s w))
   small_same s back None small = tt
@@ -60,7 +64,12 @@ module _ (tells : Bool) (v w : Device) (size : w.size ≡ v.size) (held : w.held
   ready_same e ready = record {
     idle = idle_same e.store ready.idle;
     seen = seen_same e ready.seen;
-    base = record { idle = idle_same (rolled_back e).store ready.base.idle; seen = seen_same (rolled_back e) ready.base.seen };
+    marked = λ told cat means. ready.marked told cat (held_means e cat means);
+    base = record {
+      idle = idle_same (rolled_back e).store ready.base.idle;
+      seen = seen_same (rolled_back e) ready.base.seen;
+      marked = λ told cat means. ready.base.marked told cat (held_means (rolled_back e) cat means);
+    };
     closed = ready.closed;
     small = small_same e.store (store_rolled_back e.store) e.saved ready.small;
     charges = ready.charges;

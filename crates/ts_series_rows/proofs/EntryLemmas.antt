@@ -7,12 +7,12 @@ use Rattle.ts_base.specs.declared.fault.Trouble.{Trouble}
 use Rattle.ts_command.specs.declared.command.Command.TheVariants.{ClipGetCount}
 use Rattle.ts_row.specs.declared.kind.Column.{Column}
 use Rattle.ts_row.specs.RowType.{Heading}
-use Rattle.ts_row.specs.Element.{Element}
+use Rattle.ts_row.specs.Element.{Element, has_hidden}
 use Rattle.ts_space.specs.Directory.{places_of}
 use Rattle.ts_offset.specs.declared.shape.Shape.{Shape}
 use Rattle.ts_entry.specs.Entry.{Entry, AreTaken}
 use Rattle.ts_entry.specs.Reading.{reading, clipped}
-use Rattle.ts_clip.specs.Call.{IsRead}
+use Rattle.ts_clip.specs.Call.{IsRead, IsShown}
 use Rattle.ts_clip.specs.Series.{IsLaidOut, IsTold}
 use Rattle.ts_model.specs.Catalogue.{Series, Catalogue, columns_of, shape_of}
 use Rattle.ts_layout.specs.Meaning.{Layout, catalogue_of}
@@ -21,6 +21,7 @@ use Rattle.ts_answer.specs.Reply.{entry_line, entries_text, count_line}
 use Rattle.ts_answer.specs.Tried.{IsRefusedAs}
 use Rattle.ts_answer.specs.View.{View, Shows}
 use Rattle.ts_answer.proofs.CallerLemmas.{on_ok, on_err, refused_as}
+use Rattle.ts_hidden.specs.Hidden.{IsSeenShown}
 use Rattle.ts_shelf.specs.Shelf.{IsShelf, IsShelfIn}
 use Rattle.ts_shelf.proofs.SeenLemmas.{HasSeen, elements_seen, entries_in, shelf_seen}
 use Rattle.ts_series_rows.specs.declared.reading.Choice.{Choice}
@@ -59,7 +60,8 @@ entries_said columns entries empty begun ended given after count name first last
     counted ∙ (λ i. lines i ++ count_line (number i))
 
 -- of a series that is seen
-module _ (tells : Bool) (x : View) (l : Layout) (shape : Shape) (laid : IsLaidOut shape) (slot : ℕ) (h : Heading) (key : List ℕ) (told : IsTrue tells) (shows : Shows tells x l) (found : IsShelf shape slot h key x.definitions) where
+module _ (tells : Bool) (x : View) (l : Layout) (shape : Shape) (laid : IsLaidOut shape) (slot : ℕ) (h : Heading) (key : List ℕ) (told : IsTrue tells) (shows : Shows tells x l) (found : IsShelf shape slot h key x.definitions)
+    (shown : Bool) (none : IsSeenShown shown tells key x) where
   abbrev all : (es : List Element) × HasSeen shape slot h.columns x.pages.page (places_of slot x.space) l es
   all = elements_seen tells x l shape laid slot h told shows found.columns found.lies found.named.within
 
@@ -69,12 +71,20 @@ module _ (tells : Bool) (x : View) (l : Layout) (shape : Shape) (laid : IsLaidOu
   abbrev has : HasSeen shape slot h.columns x.pages.page (places_of slot x.space) l seen_es
   has = all.1
 
+  own_entries : (series : Series) → IsShelfIn l key shape slot h series → entries series.elements ≡ seen_es
+  own_entries series is = ap (λ (s : Series). entries s.elements) is.stands.is.2 ∙ entries_in shape slot h.columns x.pages.page (places_of slot x.space) l seen_es has
+
+  -- what is told of its elements is so
+  all_shown : IsShown shown seen_es
+  all_shown tells_it =
+      let tried = shelf_seen x l shows.kept key shape slot h found in
+      sym (ap has_hidden (own_entries tried.0 tried.2)) ∙ none tells_it told l shows tried.0 tried.2.stands.listed
+
   all_entries : (series : Series) → IsShelfIn l key shape slot h series → a_reading series (catalogue_of l) ≡ Ok (reading shape seen_es)
   unfolding a_reading
   all_entries series is =
       on_ok (known (shape_of (catalogue_of l) series.kind)) shape _ (ap known is.lies)
-      ∙ ap (λ (es : List Element). let t : Tried (List Entry) = Ok (reading shape es) in t)
-      (ap (λ (s : Series). entries s.elements) is.stands.is.2 ∙ entries_in shape slot h.columns x.pages.page (places_of slot x.space) l seen_es has)
+      ∙ ap (λ (es : List Element). let t : Tried (List Entry) = Ok (reading shape es) in t) (own_entries series is)
 
   entries_outcome : (choice : Choice) → outcome (Ok (reading_of choice key)) (catalogue_of l) ≡ (chosen choice (reading shape seen_es) >>= (λ rows. let a : Answered = (entries_text h.columns rows, catalogue_of l) in Ok a))
   entries_outcome choice =
@@ -82,21 +92,21 @@ module _ (tells : Bool) (x : View) (l : Layout) (shape : Shape) (laid : IsLaidOu
       comes_to choice key (catalogue_of l) ∙ on_ok _ tried.0 _ tried.1 ∙ on_ok _ (reading shape seen_es) _ (all_entries tried.0 tried.2)
       ∙ ap (λ (columns : List Column). chosen choice (reading shape seen_es) >>= (λ rows. let a : Answered = (entries_text columns rows, catalogue_of l) in Ok a)) tried.2.columns
 
-  pub entries_refused : (took : List Entry → Type 0) (choice : Choice) (refusal : Refusal) → IsTold tells shape slot h.columns (places_of slot x.space) x.pages (λ es. IsRead took (chosen choice (reading shape es)) (Err refusal))
+  pub entries_refused : (took : List Entry → Type 0) (choice : Choice) (refusal : Refusal) → IsTold tells shape slot h.columns (places_of slot x.space) x.pages (λ es. IsShown shown es → IsRead took (chosen choice (reading shape es)) (Err refusal))
       → outcome (Ok (reading_of choice key)) (catalogue_of l) ≡ Err refusal
-  entries_refused took choice refusal read = entries_outcome choice ∙ on_err _ refusal _ (read_none took _ refusal (read told seen_es has.have))
+  entries_refused took choice refusal read = entries_outcome choice ∙ on_err _ refusal _ (read_none took _ refusal (read told seen_es has.have all_shown))
 
-  pub entries_come : (took : List Entry → Type 0) (choice : Choice) (count : ℕ) (out : List ℕ) → IsTold tells shape slot h.columns (places_of slot x.space) x.pages (λ es. IsRead took (chosen choice (reading shape es)) (Ok count))
+  pub entries_come : (took : List Entry → Type 0) (choice : Choice) (count : ℕ) (out : List ℕ) → IsTold tells shape slot h.columns (places_of slot x.space) x.pages (λ es. IsShown shown es → IsRead took (chosen choice (reading shape es)) (Ok count))
       → ((entries : List Entry) → AreTaken took entries count → out ≡ entries_text h.columns entries) → outcome (Ok (reading_of choice key)) (catalogue_of l) ≡ Ok (out, catalogue_of l)
   entries_come took choice count out read says =
-      let all = read_all took _ count (read told seen_es has.have) in
+      let all = read_all took _ count (read told seen_es has.have all_shown) in
       entries_outcome choice ∙ on_ok _ all.0 _ all.1 ∙ ap (λ (text : List ℕ). let a : Answered = (text, catalogue_of l) in Ok a) (sym (says all.0 all.2))
 
   -- how many entries stand between two stamps
-  pub count_comes : (from to : ℤ) (count : ℕ) → IsTold tells shape slot h.columns (places_of slot x.space) x.pages (λ es. count ≡ length (clipped from to (reading shape es)))
+  pub count_comes : (from to : ℤ) (count : ℕ) → IsTold tells shape slot h.columns (places_of slot x.space) x.pages (λ es. IsShown shown es → count ≡ length (clipped from to (reading shape es)))
       → outcome (Ok (ClipGetCount key from to)) (catalogue_of l) ≡ Ok (count_line count, catalogue_of l)
   unfolding outcome carried_out count_clip
   count_comes from to count read =
       let tried = shelf_seen x l shows.kept key shape slot h found in
       on_ok _ tried.0 _ tried.1 ∙ on_ok _ (reading shape seen_es) _ (all_entries tried.0 tried.2)
-      ∙ ap (λ (n : ℕ). let a : Answered = (count_line n, catalogue_of l) in Ok a) (sym (read told seen_es has.have))
+      ∙ ap (λ (n : ℕ). let a : Answered = (count_line n, catalogue_of l) in Ok a) (sym (read told seen_es has.have all_shown))

@@ -4,16 +4,17 @@ ghost use Rattle.ts_command.specs.declared.command.Command.TheVariants.{ClipGetC
 ghost use Rattle.ts_space.specs.Directory.{places_of};
 ghost use Rattle.ts_irregular.specs.Call.{Reads};
 ghost use Rattle.ts_entry.specs.Reading.{reading};
-ghost use Rattle.ts_clip.specs.Call.{IsRead};
+ghost use Rattle.ts_clip.specs.Call.{IsRead, IsShown};
 ghost use Rattle.ts_clip.specs.Series.{ArePlaces, IsLaidOut, IsTold};
 ghost use Rattle.ts_model.specs.Definitions.{series_slots};
 ghost use Rattle.ts_answer.specs.View.{view, IsSeen};
 ghost use Rattle.ts_answer.specs.CarriedOut.{ReadOut};
+ghost use Rattle.ts_hidden.specs.Hidden.{IsSeenShown};
 ghost use Rattle.ts_series_rows.specs.Readings.{reading_of, chosen};
 
 use ts_answer::Stop;
 use ts_base::{Key, Refusal, Reply, Stamp, StoreFault};
-use ts_clip::{clip, clip_count, clip_len, nth};
+use ts_clip::{clip, clip_count, clip_len_shown, nth_shown};
 use ts_entry::EntryVisitor;
 use ts_model::Defs;
 use ts_offset::Shape;
@@ -35,7 +36,8 @@ pub enum Choice {
 }
 
 /// Says the chosen entries of a series, and how many they are; TooLarge where those of a range are more than 1000000.
-/// `page` is room to read one.
+/// `shown` may tell that no element of the series is hidden: then of an irregular one the entry of a number is read from
+/// its page alone. `page` is room to read one.
 pub fn read_entries<P: Pages>(
     pages: &mut P,
     page: &mut Page,
@@ -43,9 +45,12 @@ pub fn read_entries<P: Pages>(
     space: &Space,
     key: &Key,
     choice: Choice,
+    shown: bool,
     out: &mut Reply,
 ) -> Result<(), Stop>
     requires seen { IsSeen P.tells (view defs.now.definitions space.now (P.contents pages.old)) }
+    requires shown { IsSeenShown shown P.tells key.now
+        (view defs.now.definitions space.now (P.contents pages.old)) }
     requires empty { out.old ≡ [] }
     ensures read { ReadOut P.tells (reading_of choice key.now) result out.new
         (view defs.now.definitions space.now (P.contents pages.old)) (P.contents pages.new) }
@@ -53,7 +58,9 @@ pub fn read_entries<P: Pages>(
 {
     let (shelf, shape) = shelf_of(pages, defs, space, key)?;
     let mut lines = EntryLines::behind(out);
-    let done = entries_in(pages, page, space, &shelf, &shape, choice, &mut lines)?;
+    let done = entries_in(
+        pages, page, space, &shelf, &shape, choice, shown, &mut lines,
+    )?;
     match done {
         Ok(count) => say_count(out, count)?,
         Err(refusal) => return Err(Stop::Refused(refusal)),
@@ -62,7 +69,8 @@ pub fn read_entries<P: Pages>(
 }
 
 // Hands the chosen entries to a visitor, and tells how many they are; or why they are refused, and then none is handed
-// on. All pages stay; `page` is room to read one.
+// on. `shown` may tell that no element of the series is hidden, and is right. All pages stay; `page` is room to read
+// one.
 fn entries_in<P: Pages, V: EntryVisitor>(
     pages: &mut P,
     page: &mut Page,
@@ -70,6 +78,7 @@ fn entries_in<P: Pages, V: EntryVisitor>(
     shelf: &Shelf,
     shape: &Shape<'_>,
     choice: Choice,
+    shown: bool,
     visitor: &mut V,
 ) -> Result<Result<u64, Refusal>, StoreFault>
     requires slot { shelf.now.series < series_slots }
@@ -78,7 +87,8 @@ fn entries_in<P: Pages, V: EntryVisitor>(
         (places_of shelf.now.series space.now) }
     ensures read { IfOk result (λ done. IsTold P.tells shape.now shelf.now.series shelf.now.kind.now.columns
         (places_of shelf.now.series space.now) (P.contents pages.old)
-        (λ es. IsRead (λ entries. V.took shelf.now.kind.now.columns visitor.old entries visitor.new)
+        (λ es. IsShown shown es
+        → IsRead (λ entries. V.took shelf.now.kind.now.columns visitor.old entries visitor.new)
         (chosen choice (reading shape.now es)) done)) }
     ensures call { Reads P.tells result (P.contents pages.old) (P.contents pages.new) }
     ensures undisturbed { P.undisturbed pages.old pages.new }
@@ -86,7 +96,7 @@ fn entries_in<P: Pages, V: EntryVisitor>(
     match choice {
         Choice::Number(index) => {
             let n = index.unsigned_abs();
-            let count = nth(pages, page, space, shelf, shape, n, visitor)?;
+            let count = nth_shown(pages, page, space, shelf, shape, shown, n, visitor)?;
             Ok(Ok(count))
         }
         Choice::Range(from, to) => clip(pages, page, space, shelf, shape, from, to, visitor),
@@ -97,7 +107,9 @@ fn entries_in<P: Pages, V: EntryVisitor>(
     }
 }
 
-/// Says how many entries of a series stand from one stamp to another, both included. `page` is room to read one.
+/// Says how many entries of a series stand from one stamp to another, both included. `shown` may tell that no element
+/// of the series is hidden: then of an irregular one the two pages at the ends are read alone. `page` is room to read
+/// one.
 pub fn count_clip<P: Pages>(
     pages: &mut P,
     page: &mut Page,
@@ -106,16 +118,19 @@ pub fn count_clip<P: Pages>(
     key: &Key,
     from: Stamp,
     to: Stamp,
+    shown: bool,
     out: &mut Reply,
 ) -> Result<(), Stop>
     requires seen { IsSeen P.tells (view defs.now.definitions space.now (P.contents pages.old)) }
+    requires shown { IsSeenShown shown P.tells key.now
+        (view defs.now.definitions space.now (P.contents pages.old)) }
     requires empty { out.old ≡ [] }
     ensures read { ReadOut P.tells (ClipGetCount key.now from to) result out.new
         (view defs.now.definitions space.now (P.contents pages.old)) (P.contents pages.new) }
     ensures undisturbed { P.undisturbed pages.old pages.new }
 {
     let (shelf, shape) = shelf_of(pages, defs, space, key)?;
-    let count = clip_len(pages, page, space, &shelf, &shape, from, to)?;
+    let count = clip_len_shown(pages, page, space, &shelf, &shape, shown, from, to)?;
     say_count(out, count)?;
     Ok(())
 }

@@ -23,6 +23,7 @@ use Rattle.ts_engine.specs.declared.fault.StepFault.TheVariants.{Disk, Memory, C
 use Rattle.ts_engine.specs.declared.transaction.Saved.{Saved}
 use Rattle.ts_engine.specs.Change.{reply_of}
 use Rattle.ts_engine.specs.Ended.{Commits, with_dropped}
+use Rattle.ts_hidden.specs.Marks.{Include, IsNoted}
 use Rattle.ts_engine.specs.Engine.{Kept, IsReady}
 use Rattle.ts_engine.specs.Step.{Stepped, state_after}
 use Rattle.ts_engine.specs.Transaction.{misplaced_in, counted_in}
@@ -43,7 +44,7 @@ placed_alone : (writes : Bool) (e : Kept) → e.saved ≡ None → misplaced_in 
 placed_alone writes e rests = ap (λ (o : Option Saved). misplaced_in None writes (accepted_by o)) rests
 
 module _ (tells : Bool) (command : Command) (e g : Kept) (v x : Device) (lawful : Lawful tells v) (ready : IsReady tells e v) (rests : e.saved ≡ None) (calls : Undisturbed tells e.store g.store v x)
-    (between : boundary_of command ≡ None) (definitions : g.tables.definitions ≡ e.tables.definitions) (lists : g.space.lists ≡ e.space.lists) (charges : g.charges ≡ e.charges) (saved : g.saved ≡ e.saved) (spent : g.spent ≡ e.spent)
+    (between : boundary_of command ≡ None) (definitions : g.tables.definitions ≡ e.tables.definitions) (lists : g.space.lists ≡ e.space.lists) (charges : g.charges ≡ e.charges) (saved : g.saved ≡ e.saved) (spent : g.spent ≡ e.spent) (includes : Include g.hidden e.hidden)
     (old new : List (Option View)) (more : AllHaveMore tells (committed_pages e.store v.held) old new) where
   abbrev seen : Seen
   seen = view e.tables.definitions e.space (contents_over e.store v)
@@ -72,17 +73,17 @@ module _ (tells : Bool) (command : Command) (e g : Kept) (v x : Device) (lawful 
   pub refused_beside : (f : Kept) → f ≡ with_dropped g → x.faults ≡ v.faults → (refusal : Refusal) → IsStopped tells command (stops.Refused refusal) seen left → StepsBeside tells command (Ok tt) (refusal_line refusal) e f old new v x
   refused_beside f drop no_fault refusal stopped =
       steps_beside tells command (Ok tt) (refusal_line refusal) e f old new v x
-      (refused_step tells command e g v x lawful ready calls plain placed definitions lists charges saved spent f drop no_fault refusal stopped) (saved_dropped f drop) (views_dropped f drop)
+      (refused_step tells command e g v x lawful ready calls plain placed definitions lists charges saved spent includes f drop no_fault refusal stopped) (saved_dropped f drop) (views_dropped f drop)
 
   pub memory_beside : (f : Kept) → f ≡ with_dropped g → x.faults ≡ v.faults → (error : AllocError) → StepsBeside tells command (Err (Memory error)) [] e f old new v x
   memory_beside f drop no_fault error =
       steps_beside tells command (Err (Memory error)) [] e f old new v x
-      (memory_step tells command e g v x lawful ready calls plain placed definitions lists charges saved spent f drop no_fault error) (saved_dropped f drop) (views_dropped f drop)
+      (memory_step tells command e g v x lawful ready calls plain placed definitions lists charges saved spent includes f drop no_fault error) (saved_dropped f drop) (views_dropped f drop)
 
   pub failed_beside : (f : Kept) → IsStopped tells command stops.Failed seen left → f ≡ record g { spent = Some x.faults } → StepsBeside tells command (Err Disk) [] e f old new v x
   failed_beside f rose is =
       steps_beside tells command (Err Disk) [] e f old new v x
-      (failed_step tells command e g v x lawful ready calls plain placed definitions lists charges saved spent f rose (ap (λ (k : Kept). k.spent) is)) (ap (λ (k : Kept). k.saved) is ∙ saved) tt
+      (failed_step tells command e g v x lawful ready calls plain placed definitions lists charges saved spent includes f rose (ap (λ (k : Kept). k.spent) is)) (ap (λ (k : Kept). k.saved) is ∙ saved) tt
 
   -- without a transaction nothing is counted
   uncounted : (f : Kept) → f.saved ≡ e.saved → f ≡ record f { saved = counted_in command f.saved }
@@ -94,7 +95,7 @@ module _ (tells : Bool) (command : Command) (e g : Kept) (v x : Device) (lawful 
   pub nothing_beside : (f : Kept) → f ≡ with_dropped g → x.faults ≡ v.faults → (effect : Effect) (out : List ℕ) → is_nothing effect ≡ true → CarriedOut tells command (Ok effect) out seen left → StepsBeside tells command (Ok tt) out e f old new v x
   nothing_beside f drop no_fault effect out is carried =
       steps_beside tells command (Ok tt) out e f old new v x
-      (unchanged_step tells command e g v x lawful ready calls plain placed definitions lists charges saved spent f drop no_fault f (uncounted f (saved_dropped f drop)) effect out is carried) (saved_dropped f drop) (views_dropped f drop)
+      (unchanged_step tells command e g v x lawful ready calls plain placed definitions lists charges saved spent includes f drop no_fault f (uncounted f (saved_dropped f drop)) effect out is carried) (saved_dropped f drop) (views_dropped f drop)
 
   -- the batch is committed, or dropped
   module _ (covered : AreCovered g.store new) (effect : Effect) (f : Kept) (w : Device) where
@@ -128,10 +129,10 @@ module _ (tells : Bool) (command : Command) (e g : Kept) (v x : Device) (lawful 
         (ap (λ (s : Store). s.overlay) commits.now ∙ drop.overlay ∙ ap (λ (s : Store). s.overlay) commits.store ∙ calls.overlay)
         (drop.reads.held ∙ calls.reads.held)))
 
-    pub changed_beside : Lawful tells w → (out : List ℕ) → CarriedOut tells command (Ok effect) out seen left → is_nothing effect ≡ false → (r : Result Unit StepFault) → Commits tells effect r g f x w → StepsBeside tells command r (reply_of r out) e f old new v w
-    changed_beside later out carried some r commits =
+    pub changed_beside : Lawful tells w → (out : List ℕ) → CarriedOut tells command (Ok effect) out seen left → IsNoted command e.tables.definitions g.hidden → is_nothing effect ≡ false → (r : Result Unit StepFault) → Commits tells effect r g f x w → StepsBeside tells command r (reply_of r out) e f old new v w
+    changed_beside later out carried noted some r commits =
         steps_beside tells command r (reply_of r out) e f old new v w
-        (changed_step tells command e g v x lawful ready calls plain placed definitions lists charges saved spent effect out carried f w later rests some r commits)
+        (changed_step tells command e g v x lawful ready calls plain placed definitions lists charges saved spent includes effect out carried noted f w later rests some r commits)
         (commits.saved ∙ saved) (views_then r commits)
 
 -- the same, where want of memory is passed on

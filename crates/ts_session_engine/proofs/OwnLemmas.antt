@@ -30,6 +30,8 @@ use Rattle.ts_engine.specs.declared.fault.StepFault.TheVariants.{Disk, Memory}
 use Rattle.ts_engine.specs.Change.{IsStill, reply_of}
 use Rattle.ts_engine.specs.Ended.{with_dropped}
 use Rattle.ts_engine.specs.Engine.{Kept, IsReady}
+use Rattle.ts_hidden.specs.Marks.{Include}
+use Rattle.ts_hidden.proofs.CallerLemmas.{all_included}
 use Rattle.ts_engine.proofs.CallerLemmas.{moves_disk, moves_memory, moves_still, same_copies, still_dropped, still_none}
 use Rattle.ts_session_engine.specs.Proceeds.{Proceeds}
 use Rattle.ts_session_engine.specs.Beside.{newest, SamePages}
@@ -72,7 +74,7 @@ pub unstepped : (tells : Bool) (command : Command) (error : AllocError) (out : L
 unstepped tells command error out e x v lawful ready xready =
     let still = still_none tells e.store v lawful in
     record {
-      proceeds = proceeds_moved tells (λ s. s) (Err (Memory error)) e e v v (moves_memory tells (λ s. s) e e v v ready still ready.unspent refl refl refl refl error);
+      proceeds = proceeds_moved tells (λ s. s) (Err (Memory error)) e e v v (moves_memory tells (λ s. s) e e v v ready still ready.unspent refl refl refl (all_included e.hidden) refl error);
       rests = refl;
       reads = still.calls.reads;
       still = still;
@@ -86,6 +88,9 @@ module _ (tells : Bool) (command : Command) (e g h : Kept) (v d : Device) (ready
 
   abbrev after : Contents
   after = newest h d
+
+  includes : Include h.hidden e.hidden
+  includes = subst (λ (marks : List (List ℕ)). Include marks e.hidden) (sym (ap (λ (k : Kept). k.hidden) drop ∙ ap (λ (k : Kept). k.hidden) is)) (all_included e.hidden)
 
   same_saved : h.saved ≡ e.saved
   same_saved = ap (λ (k : Kept). k.saved) drop ∙ ap (λ (k : Kept). k.saved) is
@@ -105,13 +110,13 @@ module _ (tells : Bool) (command : Command) (e g h : Kept) (v d : Device) (ready
     proceeds_ok =
         proceeds_moved tells (λ s. s) (Ok tt) e h v d
         (moves_still tells (λ s. s) e h v d ready still unspent (ap (λ (k : Kept). k.tables.definitions) drop ∙ ap (λ (k : Kept). k.tables.definitions) is) (ap (λ (k : Kept). k.space.lists) drop ∙ ap (λ (k : Kept). k.space.lists) is)
-        (ap (λ (k : Kept). k.charges) drop ∙ ap (λ (k : Kept). k.charges) is) e.saved same_saved (same_copies e.saved) ready.small (λ told state at. record { base = refl; newest = refl; accepted = at.accepted }))
+        (ap (λ (k : Kept). k.charges) drop ∙ ap (λ (k : Kept). k.charges) is) includes e.saved same_saved (same_copies e.saved) ready.small (λ told state at. record { base = refl; newest = refl; accepted = at.accepted }))
 
     proceeds_memory : (error : AllocError) → Proceeds tells (λ s. s) (Err (Memory error)) e h v d
     proceeds_memory error =
         proceeds_moved tells (λ s. s) (Err (Memory error)) e h v d
         (moves_memory tells (λ s. s) e h v d ready still unspent (ap (λ (k : Kept). k.tables.definitions) drop ∙ ap (λ (k : Kept). k.tables.definitions) is) (ap (λ (k : Kept). k.space.lists) drop ∙ ap (λ (k : Kept). k.space.lists) is)
-        (ap (λ (k : Kept). k.charges) drop ∙ ap (λ (k : Kept). k.charges) is) same_saved error)
+        (ap (λ (k : Kept). k.charges) drop ∙ ap (λ (k : Kept). k.charges) is) includes same_saved error)
 
     -- for want of memory the view keeps what it kept
     pub wanting_own : (y : View) → IsSameView x y → y.commands.items ≡ x.commands.items → (error : AllocError) (out : List ℕ) → StepsOwn tells command (Err (Memory error)) out e h x y v d

@@ -15,7 +15,7 @@ use Rattle.ts_volume.specs.Volume.{MeansCatalogue}
 use Rattle.ts_engine.specs.declared.fault.StepFault.{StepFault}
 use Rattle.ts_engine.specs.declared.fault.StepFault.TheVariants.{Disk, Memory, Closed}
 use Rattle.ts_engine.specs.declared.transaction.Saved.{Saved}
-use Rattle.ts_engine.specs.Engine.{Kept, IsReady, IsAt, IsSmall, rolled_back, seen_by}
+use Rattle.ts_engine.specs.Engine.{Kept, AreMarked, IsReady, IsAt, IsSmall, rolled_back, seen_by}
 use Rattle.ts_engine.specs.Moves.{IsUntouched, Moves}
 use Rattle.ts_session_engine.specs.Proceeds.{Proceeds}
 
@@ -76,6 +76,9 @@ module _ (tells : Bool) (v w : Device) (size : w.size ≡ v.size) (held : w.held
         (known.0, record { kept = known.1.kept; holds = λ t. subst (λ (l : List ℕ). HoldsLayout (read_pages e.store l) known.0) (sym held) (known.1.holds t) });
   }
 
+  marked_same : (e : Kept) → AreMarked tells e v → AreMarked tells e w
+  marked_same e marked told cat means = marked told cat (subst (λ (l : List ℕ). Means e.store.pages (read_pages e.store l) cat) held means)
+
   small_same : (s back : Store) (o : Option Saved) → IfSome o (λ saved. IsSmall saved.accepted (contents_over back v) (contents_over s v))
       → IfSome o (λ saved. IsSmall saved.accepted (contents_over back w) (contents_over s w))
   small_same s back None small = tt
@@ -85,7 +88,12 @@ module _ (tells : Bool) (v w : Device) (size : w.size ≡ v.size) (held : w.held
   ready_same e ready = record {
     idle = idle_same e.store ready.idle;
     seen = seen_same e ready.seen;
-    base = record { idle = idle_same (rolled_back e).store ready.base.idle; seen = seen_same (rolled_back e) ready.base.seen };
+    marked = marked_same e ready.marked;
+    base = record {
+      idle = idle_same (rolled_back e).store ready.base.idle;
+      seen = seen_same (rolled_back e) ready.base.seen;
+      marked = marked_same (rolled_back e) ready.base.marked;
+    };
     closed = ready.closed;
     small = small_same e.store (store_rolled_back e.store) e.saved ready.small;
     charges = ready.charges;

@@ -6,7 +6,9 @@ ghost use Rattle.ts_store.specs.OpenBatch.{IsOver, committed_pages, contents_ove
 ghost use Rattle.ts_store.specs.Undisturbed.{Undisturbed};
 ghost use Rattle.ts_answer.specs.View.{view};
 ghost use Rattle.ts_answer.specs.CarriedOut.{CarriedOut};
+ghost use Rattle.ts_hidden.specs.Marks.{Include, IsNoted};
 ghost use Rattle.ts_engine.specs.Change.{reply_of};
+ghost use Rattle.ts_engine.specs.Engine.{AreMarked};
 ghost use Rattle.ts_engine.specs.Work.{IsGiven};
 ghost use Rattle.ts_engine.specs.declared.fault.StepFault.TheVariants.{Closed};
 ghost use Rattle.ts_session_engine.specs.Beside.{AreBeside, AllHaveMore, AreCovered};
@@ -109,6 +111,7 @@ fn carry_out_and_keep<V: Volume>(
     requires given { IsGiven V.tells
         (view engine.old.tables.definitions engine.old.space
         (contents_over engine.old.store (V.device vol.old))) engine.old.charges out.old }
+    requires marked { AreMarked V.tells engine.old (V.device vol.old) }
     requires form { HasForm command.now }
     requires between { boundary_of command.now ≡ None }
     ensures carried { CarriedOut V.tells command.now result out.new
@@ -117,7 +120,10 @@ fn carry_out_and_keep<V: Volume>(
     ensures lists { engine.new.space.lists ≡ engine.old.space.lists }
     ensures over { IsOver V.tells engine.new.store (V.device vol.new) }
     ensures undisturbed { Undisturbed V.tells engine.old.store engine.new.store (V.device vol.old) (V.device vol.new) }
-    ensures others { engine.new ≡ record engine.old { store = engine.new.store; space = engine.new.space } }
+    ensures noted { OnOk result (IsNoted command.now engine.old.tables.definitions engine.new.hidden) }
+    ensures includes { Include engine.new.hidden engine.old.hidden }
+    ensures others { engine.new
+        ≡ record engine.old { store = engine.new.store; space = engine.new.space; hidden = engine.new.hidden } }
     ensures more { AllHaveMore V.tells (committed_pages engine.old.store (V.device vol.old).held) views.old views.new }
     ensures covered { OnOk result (AreCovered engine.new.store views.new) }
 {

@@ -1,9 +1,32 @@
 use Rattle.ts_answer.specs.View.{view}
 use Rattle.ts_layout.specs.Meaning.{catalogue_of}
 use Rattle.ts_answer.proofs.CallerLemmas.{read_stopped_first, tried_stopped}
+use Rattle.ts_shelf.proofs.MemoryLemmas.{few_elements}
 use Rattle.ts_combined_rows.specs.Combining.{join_of}
 use Rattle.ts_combined_rows.proofs.JoinLemmas.{first_unknown, second_unknown}
 use Rattle.ts_combined_rows.proofs.combining.join.Goals as goal
+
+pub join_on-requires-clause-first : goal.join_on-requires-clause-first
+join_on-requires-clause-first g c =
+    let found = c.in_ok-one.ensures in
+    record {
+      there = record { within = found.found.named.within; lies = found.found.lies };
+      laid = found.laid;
+      are = found.places;
+      rising = found.rising;
+      few = few_elements (view c.args.defs.now.definitions c.args.space.now (g.P.Pages.contents c.args.pages.now)) c.requires.seen.kept c.in_ok-one.one.0.series found.found.named.within;
+    }
+
+pub join_on-requires-clause-second : goal.join_on-requires-clause-second
+join_on-requires-clause-second g c =
+    let found = c.in_ok-other.ensures in
+    record {
+      there = record { within = found.found.named.within; lies = found.found.lies };
+      laid = found.laid;
+      are = found.places;
+      rising = found.rising;
+      few = few_elements (view c.args.defs.now.definitions c.args.space.now (g.P.Pages.contents c.args.pages.now)) c.requires.seen.kept c.in_ok-other.other.0.series found.found.named.within;
+    }
 
 pub returns-in_err-one-clause-read : goal.returns-in_err-one-clause-read
 returns-in_err-one-clause-read g c =

@@ -72,4 +72,4 @@ returns-clause-read g c =
     let columns = container_columns l c.args.container.now slot there.0 h kept.rules there.2 is in
     all_come c.args.text.now c.args.container.now c.args.from c.args.to (catalogue_of l) items read there.0 there.1 b (ap (λ (cs : List Column). binding cs items) columns ∙ c.in_ok-bound.ensures.value)
     ∙ ap (λ (t : List ℕ). let a : Answered = (t, catalogue_of l) in Ok a)
-    (sym (all_said l c.args.container.now slot kept.rules there.0 there.2 b c.args.from c.args.to c.args.out.now c.say_all.new.out c.say_count.new.out count c.requires.empty (c.in_ok-count.ensures.said told l shows) c.in_ok-say_count.ensures)))
+    (sym (all_said l c.args.container.now slot kept.rules there.0 there.2 b c.args.from c.args.to c.args.out.now c.say_all.new.out c.say_count.new.out count c.requires.empty (c.in_ok-count.ensures.said told l shows) c.in_ok-say_count.ensures.ok)))

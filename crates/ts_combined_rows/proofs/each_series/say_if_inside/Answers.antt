@@ -25,4 +25,4 @@ returns-clause-said g c = λ told l shows fresh.
     let row = c.in_ok-row in
     one_said g.P.Pages.tells x l found.result.1 found.ensures.laid c.args.slot found.result.0.kind.now told shows found.ensures.columns found.ensures.lies c.requires.slot range.container (sym c.stands_in.ensures ∙ c.if-not-stands_in.false)
     c.key_at.result.now c.key_at.ensures c.args.bound.now c.requires.columns range.from range.to c.args.folding.now c.aggregate_range.new.folding row.row c.args.out.now c.say_series_folded.new.out c.scales.result.now fresh
-    (rw found.ensures.slot at row.ensures.folds) c.scales.ensures.value c.in_ok-say_series_folded.ensures
+    (rw found.ensures.slot at row.ensures.folds) c.scales.ensures.value c.in_ok-say_series_folded.ensures.ok

@@ -34,7 +34,7 @@ loop-stack-preserved c =
     let more = length_push c.loop-stack.yielded (c.in-Some.stack, c.in-Some.row) in
     subst (λ (n : ℕ). AreStacksSaid c.args.bound.now d (take n stacks) (take n rows) c.args.out.now c.say_series_folded.new.out n) (sym more)
     (stack_said c.args.bound.now d stacks rows index c.in-Some.stack.now c.in-Some.row.now c.key_at-key.result.now c.scales.result.now c.args.out.now c.loop-stack.out c.say_series_folded.new.out turn.0 turn.1
-    (turn.2 c.in-Some.stack.now) (turn.3 c.in-Some.row.now) c.key_at-key.ensures c.scales.ensures.value c.in_ok-say_series_folded.ensures c.loop-stack.invariant)
+    (turn.2 c.in-Some.stack.now) (turn.3 c.in-Some.row.now) c.key_at-key.ensures c.scales.ensures.value c.in_ok-say_series_folded.ensures.ok c.loop-stack.invariant)
 
 pub returns : goal.returns
 returns c =

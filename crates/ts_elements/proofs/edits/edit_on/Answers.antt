@@ -45,7 +45,7 @@ returns-in_ok-say_stamp-in-Put-clause-carried g c key literals has =
     let did = subst (λ (e : Edited). IsEdited tells c.args.shape.now shelf.series shelf.kind.now.columns c.args.how c.args.stamp c.args.row.now c.room_in-room.result (places_of shelf.series c.args.space.now) v w e) c.in-Put.is done.ok in
     put_carried tells c.args.how key literals c.args.shape.now c.requires.laid shelf.series c.args.stamp shelf.kind.now c.args.row.now x has c.requires.seen.kept budget.result.others budget.result.quota c.room_in-room.result budget.ensures.budget
     budget.ensures.within c.room_in-room.ensures c.in-Put.stamp c.in-Put.moved w did (g.met.P.Pages.lawful c.edit_in.new.pages) done.call.count (done.call.no_fault (λ failed. cc)) done.change done.grows
-    c.say_stamp.new.out (said_line (stamp_line c.in-Put.stamp) c.args.out.now c.say_stamp.new.out c.requires.empty c.in_ok-say_stamp-in-Put.ensures)
+    c.say_stamp.new.out (said_line (stamp_line c.in-Put.stamp) c.args.out.now c.say_stamp.new.out c.requires.empty c.in_ok-say_stamp-in-Put.ensures.ok)
 
 pub returns-in_ok-say_stamp-in-Replaced-clause-carried : goal.returns-in_ok-say_stamp-in-Replaced-clause-carried
 returns-in_ok-say_stamp-in-Replaced-clause-carried g c key literals has =
@@ -59,7 +59,7 @@ returns-in_ok-say_stamp-in-Replaced-clause-carried g c key literals has =
     let did = subst (λ (e : Edited). IsEdited tells c.args.shape.now shelf.series shelf.kind.now.columns c.args.how c.args.stamp c.args.row.now c.room_in-room.result (places_of shelf.series c.args.space.now) v w e) c.in-Replaced.is done.ok in
     given_carried tells c.args.how key literals c.args.shape.now c.requires.laid shelf.series c.args.stamp shelf.kind.now c.args.row.now x has c.requires.seen.kept budget.result.others budget.result.quota c.room_in-room.result budget.ensures.budget
     budget.ensures.within c.room_in-room.ensures w did (g.met.P.Pages.lawful c.edit_in.new.pages) done.call.count (done.call.no_fault (λ failed. cc)) done.change done.grows
-    c.say_stamp-in-Replaced.new.out (said_line (stamp_line c.args.stamp) c.args.out.now c.say_stamp-in-Replaced.new.out c.requires.empty c.in_ok-say_stamp-in-Replaced.ensures)
+    c.say_stamp-in-Replaced.new.out (said_line (stamp_line c.args.stamp) c.args.out.now c.say_stamp-in-Replaced.new.out c.requires.empty c.in_ok-say_stamp-in-Replaced.ensures.ok)
 
 pub returns-in-Refused-clause-carried : goal.returns-in-Refused-clause-carried
 returns-in-Refused-clause-carried g c key literals has =

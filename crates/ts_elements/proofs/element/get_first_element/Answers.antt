@@ -33,7 +33,7 @@ returns-clause-read g c =
     let shape = c.in_ok-shelf.shape in
     let found = c.in_ok-shelf.ensures.found in
     let first = c.in_ok-first.first in
-    read_out tells (GetFirstElem c.args.key.now) x (g.P.Pages.contents c.first_elem.new.pages) first _ c.say_found.new.out (said_line _ c.args.out.now c.say_found.new.out c.requires.empty c.in_ok-say_found.ensures)
+    read_out tells (GetFirstElem c.args.key.now) x (g.P.Pages.contents c.first_elem.new.pages) first _ c.say_found.new.out (said_line _ c.args.out.now c.say_found.new.out c.requires.empty c.in_ok-say_found.ensures.ok)
     c.in_ok-first.ensures.call (λ told l shows.
     let tried = shelf_seen x l shows.kept c.args.key.now shape shelf.series shelf.kind.now found in
     on_ok _ tried.0 _ tried.1 ∙ ap (λ (t : List ℕ). let a : Answered = (t, catalogue_of l) in Ok a)

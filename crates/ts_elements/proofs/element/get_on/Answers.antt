@@ -15,7 +15,7 @@ returns-clause-read g c key found =
     let x = view c.args._defs.now.definitions c.args.space.now (g.P.Pages.contents c.args.pages.now) in
     let shelf = c.args.shelf.now in
     let shape = c.args.shape.now in
-    read_out tells (GetElem key c.args.stamp) x (g.P.Pages.contents c.find_in.new.pages) c.in_ok-found.found _ c.say_found.new.out (said_line _ c.args.out.now c.say_found.new.out c.requires.empty c.in_ok-say_found.ensures)
+    read_out tells (GetElem key c.args.stamp) x (g.P.Pages.contents c.find_in.new.pages) c.in_ok-found.found _ c.say_found.new.out (said_line _ c.args.out.now c.say_found.new.out c.requires.empty c.in_ok-say_found.ensures.ok)
     c.in_ok-found.ensures.call (λ told l shows.
     let tried = shelf_seen x l shows.kept key shape shelf.series shelf.kind.now found in
     on_ok _ tried.0 _ tried.1 ∙ ap (λ (t : List ℕ). let a : Answered = (t, catalogue_of l) in Ok a)

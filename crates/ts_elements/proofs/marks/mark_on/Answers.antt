@@ -29,7 +29,7 @@ returns-in_ok-say_stamp-in-Ok-clause-carried g c key found =
     let did = subst (λ (r : Result ℤ Refusal). IsMarked tells shape shelf.series shelf.kind.now.columns c.args.stamp c.args.hidden (places_of shelf.series c.args.space.now) v w r) c.in-Ok.is done.ok in
     marked_carried tells c.args.hidden key shape c.requires.laid shelf.series c.args.stamp shelf.kind.now x found c.requires.seen.kept (λ old. absurd (let no = c.in_ok-in_format.ensures.ok.2 old in cc))
     w done.call.count (done.call.no_fault (λ failed. cc)) done.change c.in-Ok.at did (g.met.P.Pages.lawful c.mark_in.new.pages) c.say_stamp.new.out
-    (said_line (stamp_line c.in-Ok.at) c.args.out.now c.say_stamp.new.out c.requires.empty c.in_ok-say_stamp-in-Ok.ensures)
+    (said_line (stamp_line c.in-Ok.at) c.args.out.now c.say_stamp.new.out c.requires.empty c.in_ok-say_stamp-in-Ok.ensures.ok)
 
 pub returns-in-Err-clause-carried : goal.returns-in-Err-clause-carried
 returns-in-Err-clause-carried g c key found =

@@ -21,7 +21,7 @@ returns-in-Some-clause-carried g c key found =
     let few = few_places x c.requires.seen.kept shelf.series in
     cleared_carried tells key shape c.requires.laid shelf.series shelf.kind.now x found c.requires.seen.kept w done.call.count (done.call.no_fault (λ failed. cc)) c.args.from c.args.to c.in_ok-removed.removed
     c.in-Some.moved (subst (λ (o : Option Moved). IsCleared tells shape shelf.series shelf.kind.now.columns c.args.from c.args.to (places_of shelf.series c.args.space.now) v w c.in_ok-removed.removed o) c.in-Some.is done.ok)
-    (g.met.P.Pages.lawful c.clear_in.new.pages) (omega (arith, done.change, few)) done.grows c.say_count.new.out (said_line (count_line c.in_ok-removed.removed) c.args.out.now c.say_count.new.out c.requires.empty c.in_ok-say_count.ensures)
+    (g.met.P.Pages.lawful c.clear_in.new.pages) (omega (arith, done.change, few)) done.grows c.say_count.new.out (said_line (count_line c.in_ok-removed.removed) c.args.out.now c.say_count.new.out c.requires.empty c.in_ok-say_count.ensures.ok)
 
 pub returns-in-None-clause-carried : goal.returns-in-None-clause-carried
 returns-in-None-clause-carried g c key found =
@@ -34,4 +34,4 @@ returns-in-None-clause-carried g c key found =
     let done = c.in_ok-removed.ensures in
     let none = subst (λ (o : Option Moved). IsCleared tells shape shelf.series shelf.kind.now.columns c.args.from c.args.to (places_of shelf.series c.args.space.now) v w c.in_ok-removed.removed o) c.in-None.is done.ok in
     none_cleared tells key shape c.requires.laid shelf.series shelf.kind.now x found c.requires.seen.kept w done.call.count (done.call.no_fault (λ failed. cc)) c.args.from c.args.to c.in_ok-removed.removed
-    none.0 none.1 none.2 done.grows c.say_count.new.out (said_line (count_line c.in_ok-removed.removed) c.args.out.now c.say_count.new.out c.requires.empty c.in_ok-say_count.ensures)
+    none.0 none.1 none.2 done.grows c.say_count.new.out (said_line (count_line c.in_ok-removed.removed) c.args.out.now c.say_count.new.out c.requires.empty c.in_ok-say_count.ensures.ok)

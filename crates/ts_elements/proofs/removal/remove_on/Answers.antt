@@ -19,7 +19,7 @@ returns-in_ok-say_count-in-Some-clause-carried g c key found =
     let done = c.in_ok-moved.ensures in
     taken_carried tells key shape c.requires.laid shelf.series shelf.kind.now x found c.requires.seen.kept w done.call.count (done.call.no_fault (λ failed. cc)) c.args.stamp c.in-Some.moved
     (subst (λ (o : Option Moved). IsRemoved tells shape shelf.series shelf.kind.now.columns c.args.stamp (places_of shelf.series c.args.space.now) v w o) c.in-Some.is done.ok)
-    (g.met.P.Pages.lawful c.remove_in.new.pages) done.change c.say_count.new.out (said_line (count_line 1) c.args.out.now c.say_count.new.out c.requires.empty c.in_ok-say_count-in-Some.ensures)
+    (g.met.P.Pages.lawful c.remove_in.new.pages) done.change c.say_count.new.out (said_line (count_line 1) c.args.out.now c.say_count.new.out c.requires.empty c.in_ok-say_count-in-Some.ensures.ok)
 
 pub returns-in_ok-say_count-in-None-clause-carried : goal.returns-in_ok-say_count-in-None-clause-carried
 returns-in_ok-say_count-in-None-clause-carried g c key found =
@@ -32,4 +32,4 @@ returns-in_ok-say_count-in-None-clause-carried g c key found =
     let done = c.in_ok-moved.ensures in
     let none = subst (λ (o : Option Moved). IsRemoved tells shape shelf.series shelf.kind.now.columns c.args.stamp (places_of shelf.series c.args.space.now) v w o) c.in-None.is done.ok in
     none_carried tells key shape c.requires.laid shelf.series shelf.kind.now x found c.requires.seen.kept w done.call.count (done.call.no_fault (λ failed. cc)) c.args.stamp none.0 none.1
-    done.change c.say_count-in-None.new.out (said_line (count_line 0) c.args.out.now c.say_count-in-None.new.out c.requires.empty c.in_ok-say_count-in-None.ensures)
+    done.change c.say_count-in-None.new.out (said_line (count_line 0) c.args.out.now c.say_count-in-None.new.out c.requires.empty c.in_ok-say_count-in-None.ensures.ok)

@@ -43,7 +43,7 @@ returns-clause-carried g c =
     let few = ap (λ (ps : List Place). length ps) c.places.ensures.ok in
     series_dropped tells x c.args.key.now slot c.in_ok-slot.ensures.found c.requires.seen.kept between w freed.call.count
     (subst (λ (ps : List Place). AreFreed tells ps v between) c.places.ensures.ok freed.freed) written
-    c.say_ok.new.out (said_line ok_line c.args.out.now c.say_ok.new.out c.requires.empty c.in_ok-say_ok.ensures)
+    c.say_ok.new.out (said_line ok_line c.args.out.now c.say_ok.new.out c.requires.empty c.in_ok-say_ok.ensures.ok)
     (written.no_fault (λ failed. cc) ∙ freed.call.no_fault (λ failed. cc)) (omega (arith, c.write_slot.ensures.bytes, freed.change, few))
 
 pub returns-clause-images : goal.returns-clause-images

@@ -35,6 +35,18 @@ returns-in_err-surveyed g c =
           (fault_after tells c.in_err-surveyed.field-0.0 v x w c.read_journal.ensures.others c.in_ok-store.ensures.no_fault c.in_err-surveyed.ensures.fault));
     }
 
+pub returns-in_err-hidden : goal.returns-in_err-hidden
+returns-in_err-hidden g c =
+    let tells = g.V.Volume.tells in
+    let v = g.V.Volume.device c.args.vol.now in
+    let x = g.V.Volume.device c.read_journal.new.vol in
+    let w = g.V.Volume.device c.survey_over.new.vol in
+    record {
+      opened = opened_err tells c.from_residual-in_err-hidden.result (Memory c.in_err-hidden.field-0.0) v w c.from_residual-in_err-hidden.ensures.1
+          (refused tells (Memory c.in_err-hidden.field-0.0) v w c.requires.settled (reads_then tells v x w c.read_journal.ensures.others c.survey_over.ensures.others)
+          (c.in_ok-surveyed.ensures.no_fault ∙ c.in_ok-store.ensures.no_fault));
+    }
+
 pub returns : goal.returns
 returns g c =
     let tells = g.V.Volume.tells in

@@ -17,7 +17,7 @@ returns-in-Ok g c =
     let w = g.V.Volume.device c.settle.new.vol in
     record {
       opened = settled_opened tells c.args.store c.admit.new.self v c.args.surveyed.defs.definitions c.args.surveyed.space c.args.surveyed.free.items c.requires.idle c.requires.closed c.requires.found c.admit.ensures
-          c.settle.new.self w c.args.surveyed.defs c.count.new.self c.count.ensures (g.met.V.Volume.lawful c.args.vol.now) c.places-slots.ensures.slots refl c.in-Ok.ensures.over c.in-Ok.ensures.settled c.in-Ok.ensures.lasts.ok (g.met.V.Volume.lawful c.settle.new.vol) c.settle.ensures.lasts.others c.settle.ensures.lasts.moments
+          c.settle.new.self w c.args.surveyed.defs c.args.surveyed.hidden.items c.args.hidden c.names_stand_in_slots.ensures c.requires.marked c.requires.slots c.count.new.self c.count.ensures (g.met.V.Volume.lawful c.args.vol.now) c.places-slots.ensures.slots refl c.in-Ok.ensures.over c.in-Ok.ensures.settled c.in-Ok.ensures.lasts.ok (g.met.V.Volume.lawful c.settle.new.vol) c.settle.ensures.lasts.others c.settle.ensures.lasts.moments
           (c.in-Ok.ensures.lasts.no_fault (λ failed. absurd (cc)));
     }
 

@@ -1,6 +1,6 @@
 use Rattle.std.proofs.Common.{ap, arith, Err}
 use Rattle.ts_store.proofs.CallerLemmas.{idle_dropped, closed_dropped}
-use Rattle.ts_engine.proofs.OpenLemmas.{survey_fault, found_dropped, if_err}
+use Rattle.ts_engine.proofs.OpenLemmas.{survey_fault, found_dropped, marked_dropped, if_err}
 use Rattle.ts_engine.specs.Start.{ReadFault}
 use Rattle.ts_engine.proofs.open.survey_over.Goals as goal
 
@@ -16,6 +16,12 @@ pub returns-clause-found : goal.returns-clause-found
 returns-clause-found g c =
     found_dropped g.V.Volume.tells _ c.args.store.now c.survey_on.new.store c.discard.new.self (g.V.Volume.device c.args.vol.now) (g.V.Volume.device c.survey_on.new.vol)
     c.in_ok-surveyed.surveyed.defs.definitions c.in_ok-surveyed.surveyed.space c.in_ok-surveyed.surveyed.free.items c.requires.idle c.survey_on.ensures.undisturbed c.discard.ensures c.in_ok-surveyed.ensures.found
+    (omega (arith, c.len.ensures, c.requires.idle.over.read.size))
+
+pub returns-clause-marked : goal.returns-clause-marked
+returns-clause-marked g c =
+    marked_dropped g.V.Volume.tells _ c.args.store.now c.survey_on.new.store c.discard.new.self (g.V.Volume.device c.args.vol.now) (g.V.Volume.device c.survey_on.new.vol)
+    c.in_ok-surveyed.surveyed.defs.definitions c.in_ok-surveyed.surveyed.space c.in_ok-surveyed.surveyed.free.items c.in_ok-surveyed.surveyed.hidden.items c.requires.idle c.survey_on.ensures.undisturbed c.discard.ensures c.in_ok-surveyed.ensures.marked
     (omega (arith, c.len.ensures, c.requires.idle.over.read.size))
 
 pub returns-clause-idle : goal.returns-clause-idle

@@ -1,9 +1,10 @@
-use Rattle.std.proofs.Common.{ℤ, w64, subst, arith}
+use Rattle.std.proofs.Common.{ℤ, w64, ap, subst, arith}
 use Rattle.std.proofs.lemmas.Int.{ints, to_z-of_z, fits_signed_from_abs}
 use Rattle.ts_command.specs.declared.command.Command.TheVariants.{GetNthElem, ClipCount}
 use Rattle.ts_command.specs.Form.{HasForm}
 use Rattle.ts_answer.specs.CarriedOut.{ReadOut}
 use Rattle.ts_answer.specs.View.{view}
+use Rattle.ts_hidden.specs.Hidden.{counted_by}
 use Rattle.ts_engine.proofs.DecidedLemmas.{read_case, small_number}
 use Rattle.ts_engine.proofs.routines.read.Goals as goal
 
@@ -33,3 +34,9 @@ returns-in-ClipCount-clause-read g c =
 
 pub clip_set-came-requires-clause-set : goal.clip_set-came-requires-clause-set
 clip_set-came-requires-clause-set g c = subst HasForm c.in-RollingClip.is c.requires.form
+
+pub read_entries-came-requires-clause-shown : goal.read_entries-came-requires-clause-shown
+read_entries-came-requires-clause-shown g c = c.requires.shown c.in-GetNthElem.key (ap counted_by c.in-GetNthElem.is)
+
+pub count_clip-came-requires-clause-shown : goal.count_clip-came-requires-clause-shown
+count_clip-came-requires-clause-shown g c = c.requires.shown c.in-ClipGetCount.key (ap counted_by c.in-ClipGetCount.is)

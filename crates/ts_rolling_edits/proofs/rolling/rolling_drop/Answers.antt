@@ -31,7 +31,7 @@ returns-clause-carried g c =
     let w = g.P.Pages.contents c.drop_on_copies.new.pages in
     let out = c.say_count.new.out in
     let many : c.len.result ≡ length planned.windows.items = omega (arith, planned.windows.ok.0, c.len.ensures) in
-    let said = said_line line c.args.out.now out c.requires.empty (c.in_ok-say_count.ensures ∙ ap (λ (n : ℕ). c.args.out.now ++ count_line n) many) in
+    let said = said_line line c.args.out.now out c.requires.empty (c.in_ok-say_count.ensures.ok ∙ ap (λ (n : ℕ). c.args.out.now ++ count_line n) many) in
     let r = c.drop_on_copies.result in
     let tries : Catalogue → Tried Answered = λ cat. Ok (line, without kinds.Series planned.control (without_windows set planned.windows.items cat)) in
     carried_whole tells (RollingDrop set) out x w refl refl refl tries r (λ told l shows. c.in_ok-planned.ensures.ok l shows.kept)

@@ -26,5 +26,5 @@ returns-clause-said g c = λ told columns l has shows.
     let few = rw c.in-Some.is at c.in_ok-said.ensures.few in (
       rows_within es c.in-Some.count number few,
       elements_said columns es c.args.out.now c.behind-lines.result.out.now c.say_windows.new.visitor.out.now _ c.say_count.new.out c.in-Some.count _ _ _ c.requires.empty c.behind-lines.ensures.none c.behind-lines.ensures.same
-          taken number c.in_ok-say_count.ensures assumption,
+          taken number c.in_ok-say_count.ensures.ok assumption,
     )

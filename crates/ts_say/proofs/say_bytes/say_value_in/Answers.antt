@@ -6,9 +6,9 @@ use Rattle.ts_row.specs.Printed.{value_text}
 use Rattle.ts_say.proofs.BytesLemmas.{null_there}
 use Rattle.ts_say.proofs.say_bytes.say_value_in.Goals as goal
 
-pub returns-then-flag-eq0 : goal.returns-then-flag-eq0
-returns-then-flag-eq0 c =
+pub returns-then-flag-eq0-clause-ok : goal.returns-then-flag-eq0-clause-ok
+returns-then-flag-eq0-clause-ok c =
     on_ok_weaker c.say_null.result
     (λ said value is. said ∙ ap (λ (v : Value). c.args.out.now ++ value_text (scale_of c.args.kind.now) v ++ c.args.behind ∷ [])
     (null_there c.args.kind.now c.args.cell.now c.in-Some.flag.now c.in-Some.bytes.now value c.in-Some.ensures.cases.0 (omega (arith, c.if-flag-eq0.true)) is))
-    c.say_null.ensures
+    c.say_null.ensures.ok

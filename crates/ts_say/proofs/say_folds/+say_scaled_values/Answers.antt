@@ -6,14 +6,14 @@ use Rattle.ts_row.proofs.PrintLemmas.{both_some}
 use Rattle.ts_say.proofs.FoldsLemmas.{last_said, more_scaled}
 use Rattle.ts_say.proofs.say_folds.+say_scaled_values.Goals as goal
 
-pub returns-then-is_end : goal.returns-then-is_end
-returns-then-is_end t c =
+pub returns-then-is_end-clause-ok : goal.returns-then-is_end-clause-ok
+returns-then-is_end-clause-ok t c =
     last_said c.args.scales.now c.in-Some.scales.now c.in-Some.scale.now c.args.values.now c.in-Some-split_first.values.now c.in-Some-split_first.value.now
     c.args.out.now c.say_value.new.out (search rules) (search rules) (c.is_end.ensures.0 c.if-is_end.true) (grind (arith, common_steps))
 
-pub returns : goal.returns
-returns t c =
+pub returns-clause-ok : goal.returns-clause-ok
+returns-clause-ok t c =
     let some = both_some (length c.in-Some.scales.now) (length c.in-Some-split_first.values.now) _ c.is_end.ensures.1 c.if-is_end.false in
     on_ok_weaker c.say_scaled_values.result
     (λ is. more_scaled c.args.scales.now c.in-Some.scales.now c.in-Some.scale.now c.args.values.now c.in-Some-split_first.values.now c.in-Some-split_first.value.now
-    c.args.out.now c.say_value.new.out c.push.new.self _ (search rules) (search rules) some.0 some.1 (grind (arith, common_steps)) c.in_ok-push.ensures.ok is) c.say_scaled_values.ensures
+    c.args.out.now c.say_value.new.out c.push.new.self _ (search rules) (search rules) some.0 some.1 (grind (arith, common_steps)) c.in_ok-push.ensures.ok is) c.say_scaled_values.ensures.ok

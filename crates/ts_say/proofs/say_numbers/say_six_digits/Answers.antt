@@ -6,8 +6,8 @@ use Rattle.ts_base.specs.StampText.{digit, two_digits}
 use Rattle.ts_say.proofs.DigitsLemmas.{one_digit, both_digits, behind_six}
 use Rattle.ts_say.proofs.say_numbers.say_six_digits.Goals as goal
 
-pub returns-then-number-lt100000 : goal.returns-then-number-lt100000
-returns-then-number-lt100000 c =
+pub returns-then-number-lt100000-clause-ok : goal.returns-then-number-lt100000-clause-ok
+returns-then-number-lt100000-clause-ok c =
     let made-1 = c.two_digits.ensures in
     let made-2 = c.two_digits-2.ensures in
     let made-3 = c.two_digits-3.ensures in
@@ -15,8 +15,8 @@ returns-then-number-lt100000 c =
     on_ok_weaker c.extend_from_slice.result (λ last. last ∙ (λ j. c.args.out.now ++ slice_index_or (made-1 j) 1 0 ∷ slice_index_or (made-2 j) 0 0 ∷ slice_index_or (made-2 j) 1 0 ∷ slice_index_or (made-3 j) 0 0 ∷ slice_index_or (made-3 j) 1 0 ∷ c.args.behind ∷ []) ∙ ap (λ (l : List ℕ). c.args.out.now ++ l) said
     ∙ sym (append_assoc c.args.out.now (decimal c.args.number) (c.args.behind ∷ []))) c.extend_from_slice.ensures.ok
 
-pub returns : goal.returns
-returns c =
+pub returns-clause-ok : goal.returns-clause-ok
+returns-clause-ok c =
     let made-1 = c.two_digits.ensures in
     let made-2 = c.two_digits-2.ensures in
     let made-3 = c.two_digits-3.ensures in

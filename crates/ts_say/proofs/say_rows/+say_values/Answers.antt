@@ -5,14 +5,14 @@ use Rattle.std.proofs.lemmas.Result.{on_ok_weaker}
 use Rattle.ts_row.proofs.PrintLemmas.{print_last, print_more, both_some}
 use Rattle.ts_say.proofs.say_rows.+say_values.Goals as goal
 
-pub returns-then-is_end : goal.returns-then-is_end
-returns-then-is_end t c =
+pub returns-then-is_end-clause-ok : goal.returns-then-is_end-clause-ok
+returns-then-is_end-clause-ok t c =
     print_last c.args.columns.now c.in-Some.columns.now c.in-Some.column.now c.args.values.now c.in-Some-split_first.values.now c.in-Some-split_first.value.now
     c.args.out.now c.say_value.new.out (search rules) (search rules) (c.is_end.ensures.0 c.if-is_end.true) (grind (arith, common_steps))
 
-pub returns : goal.returns
-returns t c =
+pub returns-clause-ok : goal.returns-clause-ok
+returns-clause-ok t c =
     let some = both_some (length c.in-Some.columns.now) (length c.in-Some-split_first.values.now) _ c.is_end.ensures.1 c.if-is_end.false in
     on_ok_weaker c.say_values.result
     (λ is. print_more c.args.columns.now c.in-Some.columns.now c.in-Some.column.now c.args.values.now c.in-Some-split_first.values.now c.in-Some-split_first.value.now
-    c.args.out.now c.say_value.new.out c.push.new.self _ (search rules) (search rules) some.0 some.1 (grind (arith, common_steps)) c.in_ok-push.ensures.ok is) c.say_values.ensures
+    c.args.out.now c.say_value.new.out c.push.new.self _ (search rules) (search rules) some.0 some.1 (grind (arith, common_steps)) c.in_ok-push.ensures.ok is) c.say_values.ensures.ok

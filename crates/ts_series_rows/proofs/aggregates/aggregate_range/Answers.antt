@@ -77,7 +77,7 @@ returns-clause-read g c =
     let row = c.in_ok-row.row in
     let read = list_read c.as_slice.result.now c.args.text.now items c.as_slice.ensures c.in_ok-list.ensures in
     read_out tells (AggregateRange c.args.text.now c.args.key.now c.args.from c.args.to) x (g.P.Pages.contents c.aggregate_range.new.pages) row _ c.say_folded.new.out
-    (said_line _ c.args.out.now c.say_folded.new.out c.requires.empty c.in_ok-say_folded.ensures ∙ ap (λ (scales : List ℕ). folded_text scales ((c.args.from, row) ∷ [])) c.scales.ensures.value)
+    (said_line _ c.args.out.now c.say_folded.new.out c.requires.empty c.in_ok-say_folded.ensures.ok ∙ ap (λ (scales : List ℕ). folded_text scales ((c.args.from, row) ∷ [])) c.scales.ensures.value)
     c.in_ok-row.ensures.call (λ told l shows.
     range_said tells x l c.in_ok-shelf.shape c.in_ok-shelf.ensures.laid shelf.series shelf.kind.now c.args.key.now told shows c.in_ok-shelf.ensures.found c.args.text.now items read b c.in_ok-bound.ensures.value c.in_ok-bound.ensures.columns
     c.in_ok-folding.folding (c.in_ok-folding.ensures.binding, c.in_ok-folding.ensures.none) c.args.from c.args.to row c.aggregate_range.new.folding c.in_ok-row.ensures.folds)

@@ -110,4 +110,4 @@ returns-clause-read g c =
     c.in_ok-window.window.size c.args.from c.args.to c.in-Ok.count c.say_count.new.out (rw c.in-Ok.is at c.in_ok-done.ensures.read)
     (λ rows taken number.
     rows_said (b.scale ∷ []) (b.scale ∷ []) rows c.args.out.now c.behind-lines.result.out.now c.running_rows.new.visitor.out.now _ c.say_count.new.out c.behind-lines.result.scales.now c.in-Ok.count _ _ _ c.requires.empty c.behind-lines.ensures.none c.behind-lines.ensures.same
-    c.behind-lines.ensures.scales refl (taken.0, taken.2) number c.in_ok-say_count-in-Ok.ensures assumption))
+    c.behind-lines.ensures.scales refl (taken.0, taken.2) number c.in_ok-say_count-in-Ok.ensures.ok assumption))

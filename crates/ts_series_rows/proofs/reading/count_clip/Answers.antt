@@ -28,6 +28,6 @@ returns-clause-read g c =
     let shelf = c.in_ok-shelf.shelf in
     let found = c.in_ok-shelf.ensures.found in
     let count = c.in_ok-count.count in
-    read_out tells (ClipGetCount c.args.key.now c.args.from c.args.to) x (g.P.Pages.contents c.clip_len.new.pages) count _ c.say_count.new.out
-    (said_line _ c.args.out.now c.say_count.new.out c.requires.empty c.in_ok-say_count.ensures) c.in_ok-count.ensures.call (λ told l shows.
-    count_comes tells x l c.in_ok-shelf.shape c.in_ok-shelf.ensures.laid shelf.series shelf.kind.now c.args.key.now told shows found c.args.from c.args.to count c.in_ok-count.ensures.read)
+    read_out tells (ClipGetCount c.args.key.now c.args.from c.args.to) x (g.P.Pages.contents c.clip_len_shown.new.pages) count _ c.say_count.new.out
+    (said_line _ c.args.out.now c.say_count.new.out c.requires.empty c.in_ok-say_count.ensures.ok) c.in_ok-count.ensures.call (λ told l shows.
+    count_comes tells x l c.in_ok-shelf.shape c.in_ok-shelf.ensures.laid shelf.series shelf.kind.now c.args.key.now told shows found c.args.shown c.requires.shown c.args.from c.args.to count c.in_ok-count.ensures.read)

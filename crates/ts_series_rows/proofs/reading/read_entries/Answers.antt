@@ -27,7 +27,7 @@ returns-in-Err-clause-read g c =
     let shelf = c.in_ok-shelf.shelf in
     let found = c.in_ok-shelf.ensures.found in
     trouble_out tells (reading_of c.args.choice c.args.key.now) _ x _ _ c.in_ok-done.done (Refused c.in-Err.refusal) refl c.in_ok-done.ensures.call (λ told l shows.
-    entries_refused tells x l c.in_ok-shelf.shape c.in_ok-shelf.ensures.laid shelf.series shelf.kind.now c.args.key.now told shows found _ c.args.choice c.in-Err.refusal (rw c.in-Err.is at c.in_ok-done.ensures.read))
+    entries_refused tells x l c.in_ok-shelf.shape c.in_ok-shelf.ensures.laid shelf.series shelf.kind.now c.args.key.now told shows found c.args.shown c.requires.shown _ c.args.choice c.in-Err.refusal (rw c.in-Err.is at c.in_ok-done.ensures.read))
 
 pub returns-clause-read : goal.returns-clause-read
 returns-clause-read g c =
@@ -36,6 +36,6 @@ returns-clause-read g c =
     let shelf = c.in_ok-shelf.shelf in
     let found = c.in_ok-shelf.ensures.found in
     said_out tells (reading_of c.args.choice c.args.key.now) c.say_count.new.out x _ c.in_ok-done.done c.in_ok-done.ensures.call (λ told l shows.
-    entries_come tells x l c.in_ok-shelf.shape c.in_ok-shelf.ensures.laid shelf.series shelf.kind.now c.args.key.now told shows found _ c.args.choice c.in-Ok.count c.say_count.new.out (rw c.in-Ok.is at c.in_ok-done.ensures.read) (λ entries taken.
+    entries_come tells x l c.in_ok-shelf.shape c.in_ok-shelf.ensures.laid shelf.series shelf.kind.now c.args.key.now told shows found c.args.shown c.requires.shown _ c.args.choice c.in-Ok.count c.say_count.new.out (rw c.in-Ok.is at c.in_ok-done.ensures.read) (λ entries taken.
     entries_said shelf.kind.now.columns entries c.args.out.now c.behind-lines.result.out.now c.entries_in.new.visitor.out.now _ c.say_count.new.out c.in-Ok.count _ _ _ c.requires.empty c.behind-lines.ensures.none c.behind-lines.ensures.same
-    taken.taken taken.number c.in_ok-say_count-in-Ok.ensures assumption))
+    taken.taken taken.number c.in_ok-say_count-in-Ok.ensures.ok assumption))

@@ -1,6 +1,7 @@
 use Rattle.std.proofs.Common.{◌≡◌, ◌*◌, ap, sym, ◌∙◌, subst}
 use Rattle.ts_store.specs.OpenBatch.{State as Store, committed_pages, contents_over}
 use Rattle.ts_answer.specs.View.{view}
+use Rattle.ts_hidden.specs.Marks.{IsNoted}
 use Rattle.ts_session_engine.specs.Beside.{AllHaveMore, AreCovered}
 use Rattle.ts_session_engine.proofs.KeepLemmas.{carried_by, carried_then, more_before, none_ok, over_then, stopped_then, undisturbed_then}
 use Rattle.ts_session_engine.proofs.StayLemmas.{more_none}
@@ -18,6 +19,8 @@ returns-in_err-effect g c =
       lists = does.lists;
       over = does.over;
       undisturbed = does.undisturbed;
+      noted = none_ok c.from_residual.result (IsNoted c.args.command.now e.tables.definitions m.hidden) (λ k. k ≡ c.in_err-effect.field-0.0) c.from_residual.ensures.1;
+      includes = does.more;
       others = does.others;
       more = more_none tells (committed_pages e.store (g.V.Volume.device c.args.vol.now).held) c.args.views.now;
       covered = none_ok c.from_residual.result (AreCovered m.store c.args.views.now) (λ k. k ≡ c.in_err-effect.field-0.0) c.from_residual.ensures.1;
@@ -42,6 +45,8 @@ returns-in_err-keep_old g c =
       lists = does.lists;
       over = over_then tells m.store x y does.over kept.reads;
       undisturbed = undisturbed_then tells e.store m.store v x y does.undisturbed kept.reads;
+      noted = none_ok r.result (IsNoted c.args.command.now e.tables.definitions m.hidden) _ r.ensures.1;
+      includes = does.more;
       others = does.others;
       more = more_before tells e.store m.store v x c.args.views.now c.keep_old.new.views does.undisturbed (subst (λ (s : Store). AllHaveMore tells (committed_pages s x.held) c.args.views.now c.keep_old.new.views) c.store.ensures kept.more);
       covered = none_ok r.result (AreCovered m.store c.keep_old.new.views) _ r.ensures.1;
@@ -62,6 +67,8 @@ returns g c =
       lists = does.lists;
       over = over_then tells m.store x y does.over kept.reads;
       undisturbed = undisturbed_then tells e.store m.store v x y does.undisturbed kept.reads;
+      noted = c.in_ok-effect.ensures.noted;
+      includes = does.more;
       others = does.others;
       more = more_before tells e.store m.store v x c.args.views.now c.keep_old.new.views does.undisturbed (subst (λ (s : Store). AllHaveMore tells (committed_pages s x.held) c.args.views.now c.keep_old.new.views) c.store.ensures kept.more);
       covered = subst (λ (s : Store). AreCovered s c.keep_old.new.views) c.store.ensures kept.covered;

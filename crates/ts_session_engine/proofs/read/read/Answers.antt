@@ -1,5 +1,5 @@
 use Rattle.std.specs.Prelude.{reverse}
-use Rattle.std.proofs.Common.{◌≡◌, List, [], ◌++◌, ℕ, Ok, Err, ap, sym, ◌∙◌, subst}
+use Rattle.std.proofs.Common.{◌≡◌, List, [], ◌++◌, ℕ, Ok, ap, sym, ◌∙◌, subst}
 use Rattle.ts_answer.specs.declared.stop.Stop.{Stop}
 use Rattle.ts_answer.specs.Reply.{refusal_line}
 use Rattle.ts_answer.specs.CarriedOut.{IsStopped}
@@ -35,7 +35,7 @@ returns-in_ok-say_refusal-in-Err-Refused g c =
     let does = c.in-Err-Refused.ensures in
     let refusal = c.in-Err-Refused.refusal in
     let stopped = subst (λ (s : Stop). IsStopped g.V.Volume.tells c.args.command.now s (seen_through x (newest e (g.V.Volume.device c.args.vol.now))) (view_contents x.old.entries x.own.entries does.changes (reverse does.free) (contents_over does.middle.store (g.V.Volume.device c.read_own.new.vol)))) c.in-Err-Refused.field-0-is does.read.stopped in
-    let said : c.say_refusal.new.out ≡ refusal_line refusal = c.in_ok-say_refusal-in-Err-Refused.ensures ∙ ap (λ (l : List ℕ). l ++ refusal_line refusal) c.clear.ensures in
+    let said : c.say_refusal.new.out ≡ refusal_line refusal = c.in_ok-say_refusal-in-Err-Refused.ensures.ok ∙ ap (λ (l : List ℕ). l ++ refusal_line refusal) c.clear.ensures in
     subst (λ (out : List ℕ). StepsOwn g.V.Volume.tells c.args.command.now (Ok tt) out e c.read_own.new.engine x c.read_own.new.view (g.V.Volume.device c.args.vol.now) (g.V.Volume.device c.read_own.new.vol)) (sym said)
     (refused_own g.V.Volume.tells c.args.command.now e does.middle c.read_own.new.engine (g.V.Volume.device c.args.vol.now) (g.V.Volume.device c.read_own.new.vol) c.requires.ready c.requires.rests x c.requires.view does.calls does.reads does.is does.drop stopped.2 c.read_own.new.view does.same does.unnoted refusal
     stopped.3)

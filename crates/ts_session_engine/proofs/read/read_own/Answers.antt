@@ -1,4 +1,4 @@
-use Rattle.std.proofs.Common.{◌≡◌, refl, ap, sym, ◌∙◌, reverse, Vec, Global, ℕ}
+use Rattle.std.proofs.Common.{refl, ap, ◌∙◌, reverse, Vec, Global, ℕ}
 use Rattle.ts_store.specs.OpenBatch.{contents_over}
 use Rattle.ts_views.specs.Pages.{view_contents}
 use Rattle.ts_answer.specs.View.{view}

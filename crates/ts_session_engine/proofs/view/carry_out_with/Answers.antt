@@ -52,7 +52,7 @@ returns-in-Err-Refused g c =
     let does = c.in-Err-Refused.ensures in
     let refusal = c.in-Err-Refused.refusal in
     let stopped = subst (λ (s : Stop). IsStopped g.V.Volume.tells c.args.command.now s (seen_through x (newest e (g.V.Volume.device c.args.vol.now))) (view_contents x.old.entries x.own.entries c.work.new.changes.entries (reverse c.work.new.free.items) (contents_over does.middle.store (g.V.Volume.device c.work.new.vol)))) c.in-Err-Refused.field-0-is does.carried.stopped in
-    let told = rw c.in-Err-Refused.field-0-is at c.in_ok-say_refusal-in-Err-Refused.ensures in
+    let told = rw c.in-Err-Refused.field-0-is at c.in_ok-say_refusal-in-Err-Refused.ensures.ok in
     let said : c.say_refusal.new.out ≡ refusal_line refusal = told ∙ ap (λ (l : List ℕ). l ++ refusal_line refusal) c.clear.ensures in
     subst (λ (out : List ℕ). StepsOwn g.V.Volume.tells c.args.command.now (Ok tt) out e c.work.new.engine x x (g.V.Volume.device c.args.vol.now) (g.V.Volume.device c.work.new.vol)) (sym said)
     (refused_own g.V.Volume.tells c.args.command.now e does.middle c.work.new.engine (g.V.Volume.device c.args.vol.now) (g.V.Volume.device c.work.new.vol) c.requires.ready c.requires.rests x c.requires.view does.calls does.reads does.is does.drop stopped.2 x (is_itself x) refl refusal stopped.3)

@@ -25,7 +25,7 @@ returns-then-is_open g c =
     let h = hand c.args.engine.now c.args.views.now c.args.log.now in
     let line = refusal_line refusals.AlreadyOpen in
     turned_said g.V.Volume.tells c.args.who (Ok c.args.command.now) h v (g.met.V.Volume.lawful c.args.vol.now) c.requires.ready line c.say_refusal.new.out
-    (c.in_ok-say_refusal.ensures ∙ ap (λ (l : List ℕ). l ++ line) c.requires.empty)
+    (c.in_ok-say_refusal.ensures.ok ∙ ap (λ (l : List ℕ). l ++ line) c.requires.empty)
     (λ told m at.
     let found = open_there g.V.Volume.tells h m v at c.args.who (sym c.is_open.ensures ∙ c.if-is_open.true) in
     begins_again c.args.who c.args.command.now m found.0 c.requires.opens found.1)
@@ -60,4 +60,4 @@ returns g c =
     let opened = c.in_ok-open_view.ensures.opened in
     turned_to g.V.Volume.tells c.args.who (Ok c.args.command.now) (Ok tt) c.say_ok.new.out h c.args.engine.now _ c.open_view.new.views (after_begin c.args.who c.args.log.now) c.begin.new.self v v opened.1 c.begin.ensures
     (opened_turned g.V.Volume.tells c.args.engine.now c.args.views.now c.args.log.now v c.args.who c.requires.within c.requires.ready (g.met.V.Volume.lawful c.args.vol.now) opened.0 opened.2 c.args.command.now c.requires.opens
-    (sym c.is_open.ensures ∙ c.if-is_open.false) c.say_ok.new.out (c.in_ok-say_ok.ensures ∙ ap (λ (l : List ℕ). l ++ ok_line) c.requires.empty))
+    (sym c.is_open.ensures ∙ c.if-is_open.false) c.say_ok.new.out (c.in_ok-say_ok.ensures.ok ∙ ap (λ (l : List ℕ). l ++ ok_line) c.requires.empty))

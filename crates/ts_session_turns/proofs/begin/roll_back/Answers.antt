@@ -24,7 +24,7 @@ returns-then-not-is_open g c =
     let h = hand c.args.engine.now c.args.views.now c.args.log.now in
     let line = refusal_line refusals.NotOpen in
     turned_said g.V.Volume.tells c.args.who (Ok c.args.command.now) h v (g.met.V.Volume.lawful c.args.vol.now) c.requires.ready line c.say_refusal.new.out
-    (c.in_ok-say_refusal.ensures ∙ ap (λ (l : List ℕ). l ++ line) c.requires.empty)
+    (c.in_ok-say_refusal.ensures.ok ∙ ap (λ (l : List ℕ). l ++ line) c.requires.empty)
     (λ told m at. rolls_none c.args.who c.args.command.now m c.requires.rolls (closed_there g.V.Volume.tells h m v at c.args.who (sym c.is_open.ensures ∙ c.if-not-is_open.true)))
 
 pub returns-in_err-say_ok : goal.returns-in_err-say_ok
@@ -47,7 +47,7 @@ returns g c =
     let h = hand c.args.engine.now c.args.views.now c.args.log.now in
     turned_to g.V.Volume.tells c.args.who (Ok c.args.command.now) (Ok tt) c.say_ok.new.out h c.args.engine.now _ c.close.new.self (after_end c.args.who c.args.log.now) c.end.new.self v v c.close.ensures c.end.ensures
     (ended_turned g.V.Volume.tells c.args.engine.now c.args.views.now c.args.log.now v c.args.who c.requires.within c.requires.ready (g.met.V.Volume.lawful c.args.vol.now) c.args.command.now ok_line c.say_ok.new.out
-    (c.in_ok-say_ok.ensures ∙ ap (λ (l : List ℕ). l ++ ok_line) c.requires.empty)
+    (c.in_ok-say_ok.ensures.ok ∙ ap (λ (l : List ℕ). l ++ ok_line) c.requires.empty)
     (λ told m at.
     let found = open_there g.V.Volume.tells h m v at c.args.who (sym c.is_open.ensures ∙ c.if-not-is_open.false) in
     rolls_back c.args.who c.args.command.now m found.0 c.requires.rolls found.1))

@@ -28,7 +28,7 @@ returns-then-not-is_open g c =
     let h = hand c.args.engine.now c.args.views.now c.args.log.now in
     let line = refusal_line refusals.NotOpen in
     turned_said g.V.Volume.tells c.args.who (Ok c.args.command.now) h v (g.met.V.Volume.lawful c.args.vol.now) c.requires.ready line c.say_refusal.new.out
-    (c.in_ok-say_refusal.ensures ∙ ap (λ (l : List ℕ). l ++ line) c.requires.empty)
+    (c.in_ok-say_refusal.ensures.ok ∙ ap (λ (l : List ℕ). l ++ line) c.requires.empty)
     (λ told m at. commits_none c.args.who c.args.command.now m c.requires.commits (closed_there g.V.Volume.tells h m v at c.args.who (sym c.is_open.ensures ∙ c.if-not-is_open.true)))
 
 pub returns-in_err-say_conflict : goal.returns-in_err-say_conflict

@@ -49,7 +49,7 @@ returns-then-commands_in-ge-MOST_ACCEPTED g c =
     turned_to g.V.Volume.tells c.args.who (Ok c.args.command.now) (Ok tt) c.say_refusal.new.out h c.args.engine.now c.args.views.now c.commands_in.new.views c.args.log.now c.args.log.now v v c.commands_in.ensures.same refl
     (full_turned g.V.Volume.tells c.args.who c.args.command.now c.args.engine.now c.args.views.now c.args.log.now v (g.met.V.Volume.lawful c.args.vol.now) c.requires.between c.requires.ready c.requires.transaction
     (sym c.is_writing.ensures ∙ c.if-not-is_writing.false) (subst (λ (n : ℕ). 32 ≤ n) c.commands_in.ensures.count c.if-commands_in-ge-MOST_ACCEPTED.true) c.say_refusal.new.out
-    (c.in_ok-say_refusal.ensures ∙ ap (λ (l : List ℕ). l ++ line) c.requires.empty))
+    (c.in_ok-say_refusal.ensures.ok ∙ ap (λ (l : List ℕ). l ++ line) c.requires.empty))
 
 pub inside_writing-requires-clause-within : goal.inside_writing-requires-clause-within
 inside_writing-requires-clause-within g c κs _ = omega (arith, c.requires.within, ap (λ (l : List (Option View)). length l) c.commands_in.ensures.same)

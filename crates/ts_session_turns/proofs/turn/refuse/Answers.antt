@@ -20,4 +20,4 @@ returns g c =
     let v = g.V.Volume.device c.args.vol.now in
     let line = refusal_line (refusals.Syntax 0) in
     turned_said g.V.Volume.tells c.args.who (Ok c.args.command.now) (hand c.args.engine.now c.args.views.now c.args.log.now) v (g.met.V.Volume.lawful c.args.vol.now) c.requires.ready line c.say_refusal.new.out
-    (c.in_ok-say_refusal.ensures ∙ ap (λ (l : List ℕ). l ++ line) c.requires.empty) (λ told m at. alone_refused c.args.who c.args.command.now m c.requires.alone)
+    (c.in_ok-say_refusal.ensures.ok ∙ ap (λ (l : List ℕ). l ++ line) c.requires.empty) (λ told m at. alone_refused c.args.who c.args.command.now m c.requires.alone)

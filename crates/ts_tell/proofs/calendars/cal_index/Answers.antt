@@ -16,4 +16,4 @@ unfolding outcome carried_out count_starts
 returns c space count free l held =
     let counted : to_z w64 (of_z w64 c.cal_index.result) ≡ c.cal_index.result = omega (arith, ints) in
     found (λ x. x.now) _ c.in_ok-counter.counter (c.in_ok-counter.ensures count l (defined_by held))
-    (said_alone l c.args.out.now c.say_signed.new.out _ _ c.requires.empty c.in_ok-say_signed.ensures (ap number_line (counted ∙ c.cal_index.ensures)))
+    (said_alone l c.args.out.now c.say_signed.new.out _ _ c.requires.empty c.in_ok-say_signed.ensures.ok (ap number_line (counted ∙ c.cal_index.ensures)))

@@ -21,4 +21,4 @@ unfolding outcome carried_out list_starts
 returns c space count free l held =
     found (λ x. x.now) _ c.in_ok-counter.counter (c.in_ok-counter.ensures count l (defined_by held))
     (goes _ c.in_ok-starts.starts (answered_list {A = Global} _ _ c.in_ok-starts.ensures) (λ starts is.
-    said_alone l c.args.out.now c.say_stamps.new.out _ _ c.requires.empty c.in_ok-say_stamps.ensures (ap stamps_text (c.deref.ensures.value ∙ is))))
+    said_alone l c.args.out.now c.say_stamps.new.out _ _ c.requires.empty c.in_ok-say_stamps.ensures.ok (ap stamps_text (c.deref.ensures.value ∙ is))))

@@ -28,4 +28,4 @@ returns c space count free l held =
     let number = ap (λ (n : ℤ). cal_stamp c.in_ok-counter.counter.now c.args.after (unsigned_abs n)) (to_z-of_z w64 c.args.count c.ranges.count) in
     found (λ x. x.now) _ c.in_ok-counter.counter (c.in_ok-counter.ensures count l (defined_by held))
     (goes _ c.in-Some.stamp (stamp_there _ c.in-Some.stamp (sym number ∙ sym c.in-Some.ensures.value)) (λ stamp is.
-    said_alone l c.args.out.now c.say_stamp.new.out _ _ c.requires.empty c.in_ok-say_stamp.ensures (ap stamp_line is)))
+    said_alone l c.args.out.now c.say_stamp.new.out _ _ c.requires.empty c.in_ok-say_stamp.ensures.ok (ap stamp_line is)))

@@ -18,5 +18,5 @@ pub returns : goal.returns
 unfolding outcome carried_out show_calendar
 returns c space count free l held =
     goes _ c.in_ok-slot.slot (c.in_ok-slot.ensures.tried count l (defined_by held)) (λ text there.
-    said_alone l c.args.out.now c.say_calendar.new.out _ _ c.requires.empty c.in_ok-say_calendar.ensures
+    said_alone l c.args.out.now c.say_calendar.new.out _ _ c.requires.empty c.in_ok-say_calendar.ensures.ok
     (ap calendar_lines (text_found c.args.defs.now.definitions space count free l c.args.name.now c.in_ok-slot.slot c.in_ok-text.text text held there c.in_ok-text.ensures)))

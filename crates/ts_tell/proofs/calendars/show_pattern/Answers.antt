@@ -13,4 +13,4 @@ pub returns : goal.returns
 unfolding outcome carried_out show_pattern
 returns c space count free l held =
     goes _ _ (c.in_ok-pattern.ensures count l (defined_by held)) (λ pattern same.
-    said_alone l c.args.out.now c.say_pattern.new.out _ _ c.requires.empty c.in_ok-say_pattern.ensures (ap pattern_lines same))
+    said_alone l c.args.out.now c.say_pattern.new.out _ _ c.requires.empty c.in_ok-say_pattern.ensures.ok (ap pattern_lines same))

@@ -13,4 +13,4 @@ unfolding outcome carried_out container_usage
 returns c count free l held =
     goes _ c.in_ok-slot.slot (c.in_ok-slot.ensures.tried count l (defined_by held)) (λ container there.
     comes tt _ (usage_said c.args.defs.now.definitions c.args.space.now count free l held c.args.out.now c.say_counts.new.out c.requires.empty c.in_ok-slot.slot c.args.name.now container c.of-charge.result c.quota_in.result there
-    (c.of-charge.ensures.ok ∙ c.requires.charged c.in_ok-slot.slot c.in_ok-slot.ensures.found.within) c.quota_in.ensures c.in_ok-say_counts.ensures))
+    (c.of-charge.ensures.ok ∙ c.requires.charged c.in_ok-slot.slot c.in_ok-slot.ensures.found.within) c.quota_in.ensures c.in_ok-say_counts.ensures.ok))

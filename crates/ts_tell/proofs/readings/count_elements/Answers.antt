@@ -17,4 +17,4 @@ pub returns : goal.returns
 unfolding outcome carried_out count_elements
 returns c count free l held =
     goes _ c.in_ok-slot.slot (c.in_ok-slot.ensures.tried count l (defined_by held)) (λ series there.
-    comes tt _ (count_said c.args.defs.now.definitions c.args.space.now count free l held c.args.out.now c.say_count.new.out c.requires.empty c.in_ok-slot.slot c.args.key.now series c.count.result there c.count.ensures c.in_ok-say_count.ensures))
+    comes tt _ (count_said c.args.defs.now.definitions c.args.space.now count free l held c.args.out.now c.say_count.new.out c.requires.empty c.in_ok-slot.slot c.args.key.now series c.count.result there c.count.ensures c.in_ok-say_count.ensures.ok))

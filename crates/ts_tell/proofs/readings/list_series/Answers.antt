@@ -15,4 +15,4 @@ unfolding outcome carried_out list_series
 returns c count free l held =
     goes _ c.in_ok-slot.slot (c.in_ok-slot.ensures.tried count l (defined_by held)) (λ container there.
     comes tt _ (list_said c.args.defs.now.definitions c.args.space.now count free l held c.args.out.now c.say_count.new.out c.requires.empty c.in_ok-slot.slot c.args.container.now container c.say_listed.new.out c.in_ok-count.count there
-    c.in_ok-count.ensures.said c.in_ok-count.ensures.count c.in_ok-say_count.ensures))
+    c.in_ok-count.ensures.said c.in_ok-count.ensures.count c.in_ok-say_count.ensures.ok))

@@ -28,7 +28,7 @@ returns-then-is_nothing g c =
     let saved = ap (λ (k : Kept). k.saved) does.others in
     let spent = ap (λ (k : Kept). k.spent) does.others in
     record {
-      stepped = unchanged_step tells command e m v x lawful c.requires.ready does.undisturbed c.requires.between c.requires.room definitions does.lists charges saved spent c.discard.new.self c.discard.ensures c.in-Ok.ensures.carried.no_fault c.count.new.self c.count.ensures c.in-Ok.effect c.carry_out_in_batch.new.out
+      stepped = unchanged_step tells command e m v x lawful c.requires.ready does.undisturbed c.requires.between c.requires.room definitions does.lists charges saved spent does.more c.discard.new.self c.discard.ensures c.in-Ok.ensures.carried.no_fault c.count.new.self c.count.ensures c.in-Ok.effect c.carry_out_in_batch.new.out
           (sym c.is_nothing.ensures ∙ c.if-is_nothing.true) c.in-Ok.ensures.carried;
     }
 
@@ -49,7 +49,7 @@ returns-else-is_some g c =
     let here = ap (λ (k : Kept). k.saved) c.self.view_is in
     let none : e.saved ≡ None = sym saved ∙ sym here ∙ saved_none c.self.inside.saved (sym c.is_some.ensures ∙ c.if-is_some.false) in
     record {
-      stepped = changed_step tells command e m v x lawful c.requires.ready does.undisturbed c.requires.between c.requires.room definitions does.lists charges saved spent c.in-Ok.effect c.carry_out_in_batch.new.out c.in-Ok.ensures.carried c.keep.new.self (g.V.Volume.device c.keep.new.vol)
+      stepped = changed_step tells command e m v x lawful c.requires.ready does.undisturbed c.requires.between c.requires.room definitions does.lists charges saved spent does.more c.in-Ok.effect c.carry_out_in_batch.new.out c.in-Ok.ensures.carried c.in-Ok.ensures.noted c.keep.new.self (g.V.Volume.device c.keep.new.vol)
           (g.met.V.Volume.lawful c.keep.new.vol) none (sym c.is_nothing.ensures ∙ c.if-is_nothing.false) c.keep.result c.keep.ensures.commits;
     }
 
@@ -70,7 +70,7 @@ returns-in_err-join-in-Ok g c =
     let fault = c.in_err-join-in-Ok.field-0.0 in
     record {
       stepped = by_fault tells command c.from_residual.result fault c.carry_out_in_batch.new.out e c.join.new.self v x c.from_residual.ensures.1
-          (unjoined_step tells command e m v x lawful c.requires.ready does.undisturbed c.requires.between c.requires.room definitions does.lists charges saved spent c.in-Ok.effect c.carry_out_in_batch.new.out c.in-Ok.ensures.carried fault c.join.new.self c.in_err-join-in-Ok.ensures.joins);
+          (unjoined_step tells command e m v x lawful c.requires.ready does.undisturbed c.requires.between c.requires.room definitions does.lists charges saved spent does.more c.in-Ok.effect c.carry_out_in_batch.new.out c.in-Ok.ensures.carried c.in-Ok.ensures.noted fault c.join.new.self c.in_err-join-in-Ok.ensures.joins);
     }
 
 pub returns-then-is_some : goal.returns-then-is_some
@@ -88,7 +88,7 @@ returns-then-is_some g c =
     let saved = ap (λ (k : Kept). k.saved) does.others in
     let spent = ap (λ (k : Kept). k.spent) does.others in
     record {
-      stepped = joined_step tells command e m v x lawful c.requires.ready does.undisturbed c.requires.between c.requires.room definitions does.lists charges saved spent c.in-Ok.effect c.carry_out_in_batch.new.out c.in-Ok.ensures.carried
+      stepped = joined_step tells command e m v x lawful c.requires.ready does.undisturbed c.requires.between c.requires.room definitions does.lists charges saved spent does.more c.in-Ok.effect c.carry_out_in_batch.new.out c.in-Ok.ensures.carried c.in-Ok.ensures.noted
           does.over (sym c.is_nothing.ensures ∙ c.if-is_nothing.false) (λ none. saved_some c.self.inside.saved (sym c.is_some.ensures ∙ c.if-is_some.true) (ap (λ (k : Kept). k.saved) c.self.view_is ∙ saved ∙ none)) c.join.new.self c.in_ok-join-in-Ok.ensures.joins c.count-then-is_some.new.self c.count-then-is_some.ensures;
     }
 
@@ -110,7 +110,7 @@ returns-in_err-say_refusal-in-Err-Refused g c =
     let stopped = subst (λ (s : Stop). IsStopped tells command s (view e.tables.definitions e.space (contents_over e.store v)) (contents_over m.store x)) c.in-Err-Refused.field-0-is c.in-Err-Refused.ensures.carried.stopped in
     record {
       stepped = by_memory tells command c.from_residual-in_err-say_refusal-in-Err-Refused.result c.say_refusal.new.out e c.discard-in-Err-Refused.new.self v x error c.from_residual-in_err-say_refusal-in-Err-Refused.ensures.1
-          (memory_step tells command e m v x lawful c.requires.ready does.undisturbed c.requires.between c.requires.room definitions does.lists charges saved spent c.discard-in-Err-Refused.new.self c.discard-in-Err-Refused.ensures stopped.2 error);
+          (memory_step tells command e m v x lawful c.requires.ready does.undisturbed c.requires.between c.requires.room definitions does.lists charges saved spent does.more c.discard-in-Err-Refused.new.self c.discard-in-Err-Refused.ensures stopped.2 error);
     }
 
 pub returns-in_ok-say_refusal-in-Err-Refused : goal.returns-in_ok-say_refusal-in-Err-Refused
@@ -129,10 +129,10 @@ returns-in_ok-say_refusal-in-Err-Refused g c =
     let spent = ap (λ (k : Kept). k.spent) does.others in
     let refusal = c.in-Err-Refused.refusal in
     let stopped = subst (λ (s : Stop). IsStopped tells command s (view e.tables.definitions e.space (contents_over e.store v)) (contents_over m.store x)) c.in-Err-Refused.field-0-is c.in-Err-Refused.ensures.carried.stopped in
-    let said : c.say_refusal.new.out ≡ refusal_line refusal = c.in_ok-say_refusal-in-Err-Refused.ensures ∙ ap (λ (l : List ℕ). l ++ refusal_line refusal) c.clear.ensures in
+    let said : c.say_refusal.new.out ≡ refusal_line refusal = c.in_ok-say_refusal-in-Err-Refused.ensures.ok ∙ ap (λ (l : List ℕ). l ++ refusal_line refusal) c.clear.ensures in
     record {
       stepped = subst (λ (out : List ℕ). Stepped tells command (Ok tt) out e c.discard-in-Err-Refused.new.self v x) (sym said)
-          (refused_step tells command e m v x lawful c.requires.ready does.undisturbed c.requires.between c.requires.room definitions does.lists charges saved spent c.discard-in-Err-Refused.new.self c.discard-in-Err-Refused.ensures stopped.2 refusal stopped);
+          (refused_step tells command e m v x lawful c.requires.ready does.undisturbed c.requires.between c.requires.room definitions does.lists charges saved spent does.more c.discard-in-Err-Refused.new.self c.discard-in-Err-Refused.ensures stopped.2 refusal stopped);
     }
 
 pub returns-in-Err-Failed : goal.returns-in-Err-Failed
@@ -151,7 +151,7 @@ returns-in-Err-Failed g c =
     let spent = ap (λ (k : Kept). k.spent) does.others in
     let stopped = subst (λ (s : Stop). IsStopped tells command s (view e.tables.definitions e.space (contents_over e.store v)) (contents_over m.store x)) c.in-Err-Failed.field-0-is c.in-Err-Failed.ensures.carried.stopped in
     record {
-      stepped = failed_step tells command e m v x lawful c.requires.ready does.undisturbed c.requires.between c.requires.room definitions does.lists charges saved spent c.spend.new.self stopped (ap (λ (k : Kept). k.spent) c.spend.ensures);
+      stepped = failed_step tells command e m v x lawful c.requires.ready does.undisturbed c.requires.between c.requires.room definitions does.lists charges saved spent does.more c.spend.new.self stopped (ap (λ (k : Kept). k.spent) c.spend.ensures);
     }
 
 pub returns-in-Err-Memory : goal.returns-in-Err-Memory
@@ -170,7 +170,7 @@ returns-in-Err-Memory g c =
     let spent = ap (λ (k : Kept). k.spent) does.others in
     let stopped = subst (λ (s : Stop). IsStopped tells command s (view e.tables.definitions e.space (contents_over e.store v)) (contents_over m.store x)) c.in-Err-Memory.field-0-is c.in-Err-Memory.ensures.carried.stopped in
     record {
-      stepped = memory_step tells command e m v x lawful c.requires.ready does.undisturbed c.requires.between c.requires.room definitions does.lists charges saved spent c.discard-in-Err-Memory.new.self c.discard-in-Err-Memory.ensures stopped c.in-Err-Memory.error;
+      stepped = memory_step tells command e m v x lawful c.requires.ready does.undisturbed c.requires.between c.requires.room definitions does.lists charges saved spent does.more c.discard-in-Err-Memory.new.self c.discard-in-Err-Memory.ensures stopped c.in-Err-Memory.error;
     }
 
 pub keep-requires-clause-charge : goal.keep-requires-clause-charge

@@ -16,10 +16,10 @@ returns-in-Ok g c =
     let v = g.V.Volume.device c.args.vol.now in
     let w = g.V.Volume.device c.commit.new.vol in
     let over = subst (λ (e : Kept). IsOver tells e.store v) (sym c.self.view_is) c.requires.over in
-    let f : Kept = record { store = c.commit.new.self; tables = c.self.inside.defs; space = c.self.inside.space; charges = c.self.inside.charges; saved = c.self.inside.saved; spent = c.self.inside.spent } in
+    let f : Kept = record { store = c.commit.new.self; tables = c.self.inside.defs; space = c.self.inside.space; charges = c.self.inside.charges; hidden = c.self.inside.hidden; saved = c.self.inside.saved; spent = c.self.inside.spent } in
     record {
       finished = subst (λ (e : Kept). Finished tells (Ok tt) (Ok tt) e f v w) c.self.view_is
-          (committed tells (the_view c.self.inside) f v w over c.commit.ensures.lasts.moments c.commit.ensures.lasts.others refl refl refl refl refl c.in-Ok.ensures.closed c.in-Ok.ensures.over c.in-Ok.ensures.lasts.ok (c.in-Ok.ensures.lasts.no_fault (λ failed. absurd (cc))));
+          (committed tells (the_view c.self.inside) f v w over c.commit.ensures.lasts.moments c.commit.ensures.lasts.others refl refl refl refl refl refl c.in-Ok.ensures.closed c.in-Ok.ensures.over c.in-Ok.ensures.lasts.ok (c.in-Ok.ensures.lasts.no_fault (λ failed. absurd (cc))));
     }
 
 pub returns-in-Err : goal.returns-in-Err
@@ -28,8 +28,8 @@ returns-in-Err g c =
     let v = g.V.Volume.device c.args.vol.now in
     let w = g.V.Volume.device c.commit.new.vol in
     let over = subst (λ (e : Kept). IsOver tells e.store v) (sym c.self.view_is) c.requires.over in
-    let f : Kept = record { store = c.commit.new.self; tables = c.self.inside.defs; space = c.self.inside.space; charges = c.self.inside.charges; saved = c.self.inside.saved; spent = Some c.faults.result } in
+    let f : Kept = record { store = c.commit.new.self; tables = c.self.inside.defs; space = c.self.inside.space; charges = c.self.inside.charges; hidden = c.self.inside.hidden; saved = c.self.inside.saved; spent = Some c.faults.result } in
     record {
       finished = subst (λ (e : Kept). Finished tells (Ok tt) (Err Disk) e f v w) c.self.view_is
-          (uncommitted tells (the_view c.self.inside) f v w over c.commit.ensures.lasts.moments c.commit.ensures.lasts.others refl refl refl refl (ap Some c.faults.ensures) (c.in-Err.ensures.lasts.cause refl));
+          (uncommitted tells (the_view c.self.inside) f v w over c.commit.ensures.lasts.moments c.commit.ensures.lasts.others refl refl refl refl refl (ap Some c.faults.ensures) (c.in-Err.ensures.lasts.cause refl));
     }

@@ -40,6 +40,7 @@ returns-in-Ok c =
         definitions_stay = tt;
         lists_stay = tt;
         charges_stay = tt;
+        hidden = ap (λ (k : Kept). k.hidden) view_is ∙ ap (λ (k : Kept). k.hidden) room.others;
         saved = ap (λ (k : Kept). k.saved) view_is ∙ ap (λ (k : Kept). k.saved) room.others;
         spent = ap (λ (k : Kept). k.spent) view_is ∙ ap (λ (k : Kept). k.spent) room.others;
       };
@@ -60,6 +61,7 @@ returns-in-Err c =
         definitions_stay = ap (λ (k : Kept). k.tables.definitions) drop ∙ room.definitions;
         lists_stay = ap (λ (k : Kept). k.space.lists) drop ∙ room.lists;
         charges_stay = ap (λ (k : Kept). k.charges) drop ∙ ap (λ (k : Kept). k.charges) room.others;
+        hidden = ap (λ (k : Kept). k.hidden) drop ∙ ap (λ (k : Kept). k.hidden) room.others;
         saved = ap (λ (k : Kept). k.saved) drop ∙ ap (λ (k : Kept). k.saved) room.others;
         spent = ap (λ (k : Kept). k.spent) drop ∙ ap (λ (k : Kept). k.spent) room.others;
       };

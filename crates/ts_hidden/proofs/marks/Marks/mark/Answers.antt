@@ -1,6 +1,6 @@
-use Rattle.std.proofs.Common.{List, [], ◌∷◌, ◌++◌, ℕ, ap, subst, sym, ◌∙◌}
-use Rattle.ts_hidden.specs.Marks.{is_marked, Include}
-use Rattle.ts_hidden.proofs.MarkLemmas.{marked_last, marked_before}
+use Rattle.std.proofs.Common.{List, [], ◌∷◌, ◌++◌, ℕ, ap, ◌∙◌}
+use Rattle.ts_hidden.specs.Marks.{is_marked}
+use Rattle.ts_hidden.proofs.MarkLemmas.{marked_last}
 use Rattle.ts_hidden.proofs.marks.Marks.mark.Goals as goal
 
 pub returns-clause-marked : goal.returns-clause-marked
