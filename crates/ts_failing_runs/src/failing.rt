@@ -8,8 +8,8 @@ use std::test::Fail;
 use std::thread::Threads;
 use ts_disk::{MemorySite, MemorySource, Pick};
 use ts_programs::{
-    Course, bytes_of, carried_out, is_after, reads, run, said_of, script_of, states_of, status,
-    volume, whole_replies,
+    Course, bytes_of, carried_out, is_after, only, reads, run, said_of, script_of, states_of,
+    status, volume, whole_replies,
 };
 
 const SIX: Course = Course {
@@ -82,20 +82,21 @@ fn all_fail_well(
     let calls = carried_out(rt, alloc, course, bytes, count)?.calls();
     let reads = reads(rt, alloc, "8")?;
     for call in 0..calls {
-        let mut site = MemorySite::new(Vec::from_slice(alloc, bytes)?)?;
+        let mut sites = vec![in alloc; MemorySite::new(Vec::from_slice(alloc, bytes)?)?]?;
+        let site = only(&mut sites)?;
         site.fail(call)?;
         let wanted = if says.contains(&call) { 4 } else { 5 };
         let before = says.iter().filter(|say| **say < call).count();
-        if run(rt, alloc, &mut site, &script)? != wanted
+        if run(rt, alloc, site, &script)? != wanted
             || site.calls() != call.saturating_add(1)
             || site.said() != said_of(alloc, course, before)?.as_slice()
         {
             return Ok(false);
         }
         let is_left = if 1 <= call && call <= reads {
-            bytes_of(alloc, &mut site)?.as_slice() == bytes
+            bytes_of(alloc, site)?.as_slice() == bytes
         } else {
-            leaves_what_was_said(rt, alloc, course, &states, &mut site)?
+            leaves_what_was_said(rt, alloc, course, &states, site)?
         };
         if !is_left {
             return Ok(false);
@@ -119,29 +120,32 @@ const COUNT: &[u8] = b"GetNelems('x');";
 
 // What an opening finds in a volume: how many elements the series has.
 fn count_in(rt: &(impl Threads + Sync), alloc: Global, bytes: Vec<u8>) -> Result<Vec<u8>, Fail> {
-    let mut site = MemorySite::new(bytes)?;
-    run(rt, alloc, &mut site, COUNT)?;
+    let mut sites = vec![in alloc; MemorySite::new(bytes)?]?;
+    let site = only(&mut sites)?;
+    run(rt, alloc, site, COUNT)?;
     Ok(Vec::from_slice(alloc, site.said())?)
 }
 
 // A volume with two series that nothing was done with yet in this site.
 fn two_series(rt: &(impl Threads + Sync), alloc: Global) -> Result<MemorySite, Fail> {
-    let mut site = volume(rt, alloc, "8")?;
+    let mut sites = vec![in alloc; volume(rt, alloc, "8")?]?;
+    let site = only(&mut sites)?;
     run(
         rt,
         alloc,
-        &mut site,
+        site,
         b"CreateRowType(rd, t datetime, v integer);TSContainerCreate(c1, rd, 8);\
         TSCreateIrr('x', c1); TSCreateIrr('y', c1);",
     )?;
-    Ok(MemorySite::new(bytes_of(alloc, &mut site)?)?)
+    Ok(MemorySite::new(bytes_of(alloc, site)?)?)
 }
 
 #[test]
 fn a_script_that_is_cut_off_says_so(rt: HostRuntime) -> Result<(), Fail> {
     let alloc = rt.alloc();
-    let mut site = two_series(&rt, alloc)?;
-    assert_eq!(rt; run(&rt, alloc, &mut site, UNENDED)?, 0);
+    let mut sites = vec![in alloc; two_series(&rt, alloc)?]?;
+    let site = only(&mut sites)?;
+    assert_eq!(rt; run(&rt, alloc, site, UNENDED)?, 0);
     assert_eq!(rt;
         site.said(),
         b"ok 2011-01-03 00:00:00.00000\nerror 3 Unended\n".as_slice()
@@ -153,12 +157,13 @@ fn a_script_that_is_cut_off_says_so(rt: HostRuntime) -> Result<(), Fail> {
 #[test]
 fn a_first_pull_that_fails_leaves_the_volume(rt: HostRuntime) -> Result<(), Fail> {
     let alloc = rt.alloc();
-    let mut site = two_series(&rt, alloc)?;
+    let mut sites = vec![in alloc; two_series(&rt, alloc)?]?;
+    let site = only(&mut sites)?;
     let mut source = MemorySource::new(Vec::from_slice(alloc, UNENDED)?, 7);
     source.fail(0)?;
-    assert_eq!(rt; status(&rt, alloc, &["run"], &mut site, &mut source)?, 3);
+    assert_eq!(rt; status(&rt, alloc, &["run"], site, &mut source)?, 3);
     assert_eq!(rt; site.said(), b"".as_slice());
-    let bytes = bytes_of(alloc, &mut site)?;
+    let bytes = bytes_of(alloc, site)?;
     assert_eq!(rt;
         count_in(&rt, alloc, bytes)?.as_slice(),
         b"ok 0\n".as_slice()
@@ -179,11 +184,12 @@ fn a_first_say_or_sync_that_fails_leaves_one_or_none(rt: HostRuntime) -> Result<
     )?;
     let say = whole.calls().saturating_sub(1);
     for (number, wanted, found) in [(say, 4, b"ok 1\n"), (0, 5, b"ok 0\n")] {
-        let mut site = two_series(&rt, alloc)?;
+        let mut sites = vec![in alloc; two_series(&rt, alloc)?]?;
+        let site = only(&mut sites)?;
         site.fail(number)?;
-        assert_eq!(rt; run(&rt, alloc, &mut site, UNENDED)?, wanted);
+        assert_eq!(rt; run(&rt, alloc, site, UNENDED)?, wanted);
         assert_eq!(rt; site.said(), b"".as_slice());
-        let bytes = bytes_of(alloc, &mut site)?;
+        let bytes = bytes_of(alloc, site)?;
         assert_eq!(rt; count_in(&rt, alloc, bytes)?.as_slice(), found.as_slice());
     }
     Ok(())

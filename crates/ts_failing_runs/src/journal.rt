@@ -7,7 +7,7 @@ use std::alloc::Global;
 use std::test::Fail;
 use std::thread::Threads;
 use ts_disk::{MemorySite, Pick};
-use ts_programs::{PICKS, bytes_after, bytes_of, run};
+use ts_programs::{PICKS, bytes_after, bytes_of, only, run};
 
 /// Makes one element. What it leaves in the journal goes to its place at the next opening.
 const ELEMENT: &[u8] = b"CreateRowType(rd, t datetime, v integer);TSContainerCreate(c1, rd, 8);\
@@ -39,11 +39,12 @@ fn updated(
     bytes: &[u8],
     count: u32,
     end: u64,
-) -> Result<MemorySite, Fail> {
-    let mut site = MemorySite::new(Vec::from_slice(alloc, bytes)?)?;
+) -> Result<Vec<MemorySite>, Fail> {
+    let mut sites = vec![in alloc; MemorySite::new(Vec::from_slice(alloc, bytes)?)?]?;
+    let site = only(&mut sites)?;
     site.fuse(end);
-    run(rt, alloc, &mut site, &updates(alloc, count)?)?;
-    Ok(site)
+    run(rt, alloc, site, &updates(alloc, count)?)?;
+    Ok(sites)
 }
 
 /// No run here has as many calls.
@@ -67,8 +68,9 @@ fn has_value(
     bytes: Vec<u8>,
     value: usize,
 ) -> Result<bool, Fail> {
-    let mut site = MemorySite::new(bytes)?;
-    let status = run(rt, alloc, &mut site, b"GetElem('x','2011-01-03 00:00:00');")?;
+    let mut sites = vec![in alloc; MemorySite::new(bytes)?]?;
+    let site = only(&mut sites)?;
+    let status = run(rt, alloc, site, b"GetElem('x','2011-01-03 00:00:00');")?;
     let next = value.saturating_add(1);
     let now = format!(in alloc; "2011-01-03 00:00:00.00000 {value}\nok 1\n")?;
     let then = format!(in alloc; "2011-01-03 00:00:00.00000 {next}\nok 1\n")?;
@@ -79,10 +81,12 @@ fn has_value(
 fn a_checkpoint_comes_where_the_next_record_has_no_room(rt: HostRuntime) -> Result<(), Fail> {
     let alloc = rt.alloc();
     let bytes = bytes_after(&rt, alloc, ELEMENT)?;
-    let mut full = updated(&rt, alloc, &bytes, 254, NEVER)?;
-    assert_eq!(rt; records(&bytes_of(alloc, &mut full)?), 254);
-    let mut first = updated(&rt, alloc, &bytes, 255, NEVER)?;
-    assert_eq!(rt; records(&bytes_of(alloc, &mut first)?), 1);
+    let mut fulls = updated(&rt, alloc, &bytes, 254, NEVER)?;
+    let full = only(&mut fulls)?;
+    assert_eq!(rt; records(&bytes_of(alloc, full)?), 254);
+    let mut firsts = updated(&rt, alloc, &bytes, 255, NEVER)?;
+    let first = only(&mut firsts)?;
+    assert_eq!(rt; records(&bytes_of(alloc, first)?), 1);
     Ok(())
 }
 
@@ -108,14 +112,15 @@ fn all_have(
 // the update of this number.
 fn stops_around(rt: &(impl Threads + Sync), alloc: Global, last: u32) -> Result<bool, Fail> {
     let bytes = &bytes_after(rt, alloc, ELEMENT)?;
-    let checkpoint = updated(rt, alloc, bytes, last, NEVER)?.calls();
+    let checkpoint = only(&mut updated(rt, alloc, bytes, last, NEVER)?)?.calls();
     for call in checkpoint.saturating_sub(10)..checkpoint.saturating_add(14) {
-        let site = updated(rt, alloc, bytes, 260, call)?;
+        let mut sites = updated(rt, alloc, bytes, 260, call)?;
+        let site = only(&mut sites)?;
         if site.calls() <= call {
             return Ok(false);
         }
         let acknowledged = site.said().iter().filter(|byte| **byte == b'\n').count();
-        if !all_have(rt, alloc, &site, call, acknowledged)? {
+        if !all_have(rt, alloc, site, call, acknowledged)? {
             return Ok(false);
         }
     }
@@ -135,8 +140,9 @@ fn stops_in_opening(
     bytes: &[u8],
     value: usize,
 ) -> Result<bool, Fail> {
-    let mut site = MemorySite::new(Vec::from_slice(alloc, bytes)?)?;
-    run(rt, alloc, &mut site, b"")?;
+    let mut sites = vec![in alloc; MemorySite::new(Vec::from_slice(alloc, bytes)?)?]?;
+    let site = only(&mut sites)?;
+    run(rt, alloc, site, b"")?;
     let first = site.calls().saturating_sub(12);
     for call in first..site.calls() {
         if call == first && site.image(call, Pick::Half)?.as_slice() != bytes {
@@ -148,7 +154,7 @@ fn stops_in_opening(
             }
         }
     }
-    has_value(rt, alloc, bytes_of(alloc, &mut site)?, value)
+    has_value(rt, alloc, bytes_of(alloc, site)?, value)
 }
 
 #[test]
@@ -157,7 +163,7 @@ fn a_stop_in_an_opening_over_a_full_journal_leaves_its_updates(
 ) -> Result<(), Fail> {
     let alloc = rt.alloc();
     let bytes = bytes_after(&rt, alloc, ELEMENT)?;
-    let full = bytes_of(alloc, &mut updated(&rt, alloc, &bytes, 254, NEVER)?)?;
+    let full = bytes_of(alloc, only(&mut updated(&rt, alloc, &bytes, 254, NEVER)?)?)?;
     // The value of the last update, and of none behind it.
     assert!(rt; stops_in_opening(&rt, alloc, &full, 254)?);
     Ok(())

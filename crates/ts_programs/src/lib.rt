@@ -11,5 +11,5 @@ pub use courses::{
     Course, carried_out, is_after, reading_of, said_of, script_of, states_of, whole_replies,
 };
 pub use program::{
-    PICKS, answers, bytes_after, bytes_of, damage, migrate, reads, run, status, volume,
+    PICKS, answers, bytes_after, bytes_of, damage, migrate, only, reads, run, status, volume,
 };

@@ -40,6 +40,15 @@ pub fn volume(rt: &(impl Threads + Sync), alloc: Global, pages: &str) -> Result<
     }
 }
 
+/// The site of a list of one. What owns a site in the tests of whole runs is such a list: the drop of a list's elements is
+/// proved once for a crate, and that of a site in each place where a function ends.
+pub fn only(sites: &mut [MemorySite]) -> Result<&mut MemorySite, Fail> {
+    match sites.first_mut() {
+        Some(site) => Ok(site),
+        None => Err(Fail::from("no site")),
+    }
+}
+
 /// The status of a run of a script that comes in pieces of 7 bytes.
 pub fn run(
     rt: &(impl Threads + Sync),

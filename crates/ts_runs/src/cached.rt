@@ -3,7 +3,7 @@ use std::alloc::Global;
 use std::test::Fail;
 use std::thread::Threads;
 use ts_disk::MemorySite;
-use ts_programs::{bytes_of, run, volume};
+use ts_programs::{bytes_of, only, run, volume};
 
 /// A regular series by minutes, whose pages have room for five elements.
 const MINUTES: &[u8] =
@@ -14,7 +14,8 @@ const MINUTES: &[u8] =
 
 // The bytes of a volume with one element on each of 100 pages of the series.
 fn hundred_pages(rt: &(impl Threads + Sync), alloc: Global) -> Result<Vec<u8>, Fail> {
-    let mut site = volume(rt, alloc, "100")?;
+    let mut sites = vec![in alloc; volume(rt, alloc, "100")?]?;
+    let site = only(&mut sites)?;
     let mut script = Vec::from_slice(alloc, MINUTES)?;
     for page in 0..100u16 {
         let (hour, minute) = (page / 12, page % 12 * 5);
@@ -23,8 +24,8 @@ fn hundred_pages(rt: &(impl Threads + Sync), alloc: Global) -> Result<Vec<u8>, F
         )?;
         script.extend_from_slice(statement.as_bytes())?;
     }
-    run(rt, alloc, &mut site, &script)?;
-    bytes_of(alloc, &mut site)
+    run(rt, alloc, site, &script)?;
+    bytes_of(alloc, site)
 }
 
 // How many calls a run of this script makes on a volume of these bytes, if it says this.
@@ -35,8 +36,9 @@ fn calls(
     script: &[u8],
     said: &[u8],
 ) -> Result<Option<u64>, Fail> {
-    let mut site = MemorySite::new(Vec::from_slice(alloc, bytes)?)?;
-    let status = run(rt, alloc, &mut site, script)?;
+    let mut sites = vec![in alloc; MemorySite::new(Vec::from_slice(alloc, bytes)?)?]?;
+    let site = only(&mut sites)?;
+    let status = run(rt, alloc, site, script)?;
     if status != 0 || site.said() != said {
         return Ok(None);
     }

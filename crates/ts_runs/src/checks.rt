@@ -3,7 +3,7 @@ use std::alloc::Global;
 use std::test::Fail;
 use std::thread::Threads;
 use ts_disk::{MemorySite, MemorySource};
-use ts_programs::{bytes_of, damage, run, status, volume};
+use ts_programs::{bytes_of, damage, only, run, status, volume};
 
 /// A regular series with two elements.
 const WEEKS: &[u8] =
@@ -28,24 +28,27 @@ fn again(alloc: Global, site: &mut MemorySite) -> Result<MemorySite, Fail> {
 #[test]
 fn a_check_says_its_report_and_leaves_the_volume(rt: HostRuntime) -> Result<(), Fail> {
     let alloc = rt.alloc();
-    let mut site = volume(&rt, alloc, "8")?;
-    run(&rt, alloc, &mut site, WEEKS)?;
-    let mut site = again(alloc, &mut site)?;
-    let bytes = bytes_of(alloc, &mut site)?;
-    assert_eq!(rt; check(&rt, alloc, &mut site)?, 0);
+    let mut sites = vec![in alloc; volume(&rt, alloc, "8")?]?;
+    let site = only(&mut sites)?;
+    run(&rt, alloc, site, WEEKS)?;
+    let mut sites = vec![in alloc; again(alloc, site)?]?;
+    let site = only(&mut sites)?;
+    let bytes = bytes_of(alloc, site)?;
+    assert_eq!(rt; check(&rt, alloc, site)?, 0);
     assert_eq!(rt; site.said(), REPORT);
-    assert!(rt; bytes_of(alloc, &mut site)? == bytes);
+    assert!(rt; bytes_of(alloc, site)? == bytes);
     Ok(())
 }
 
 #[test]
 fn a_bad_page_is_told_by_a_check_alone(rt: HostRuntime) -> Result<(), Fail> {
     let alloc = rt.alloc();
-    let mut site = volume(&rt, alloc, "1")?;
-    assert!(rt; damage(&mut site, 930 * 4096, &[1]));
-    assert_eq!(rt; run(&rt, alloc, &mut site, b"GetNelems('n');")?, 6);
+    let mut sites = vec![in alloc; volume(&rt, alloc, "1")?]?;
+    let site = only(&mut sites)?;
+    assert!(rt; damage(site, 930 * 4096, &[1]));
+    assert_eq!(rt; run(&rt, alloc, site, b"GetNelems('n');")?, 6);
     assert_eq!(rt; site.said(), b"".as_slice());
-    assert_eq!(rt; check(&rt, alloc, &mut site)?, 6);
+    assert_eq!(rt; check(&rt, alloc, site)?, 6);
     assert_eq!(rt; site.said(), b"bad page 930\n".as_slice());
     Ok(())
 }
@@ -54,9 +57,10 @@ fn a_bad_page_is_told_by_a_check_alone(rt: HostRuntime) -> Result<(), Fail> {
 #[test]
 fn a_check_that_fails_has_the_status_of_what_failed(rt: HostRuntime) -> Result<(), Fail> {
     let alloc = rt.alloc();
-    let mut whole = volume(&rt, alloc, "8")?;
+    let mut wholes = vec![in alloc; volume(&rt, alloc, "8")?]?;
+    let whole = only(&mut wholes)?;
     let before = whole.calls();
-    assert_eq!(rt; check(&rt, alloc, &mut whole)?, 0);
+    assert_eq!(rt; check(&rt, alloc, whole)?, 0);
     let calls = whole.calls().saturating_sub(before);
     for call in [
         0,
@@ -65,14 +69,15 @@ fn a_check_that_fails_has_the_status_of_what_failed(rt: HostRuntime) -> Result<(
         calls.saturating_sub(2),
         calls.saturating_sub(1),
     ] {
-        let mut site = volume(&rt, alloc, "8")?;
+        let mut sites = vec![in alloc; volume(&rt, alloc, "8")?]?;
+        let site = only(&mut sites)?;
         site.fail(site.calls().saturating_add(call))?;
         let wanted = if call.saturating_add(1) == calls {
             4
         } else {
             5
         };
-        assert_eq!(rt; check(&rt, alloc, &mut site)?, wanted, "at {call}");
+        assert_eq!(rt; check(&rt, alloc, site)?, wanted, "at {call}");
         assert_eq!(rt; site.said(), b"".as_slice());
     }
     Ok(())
@@ -86,10 +91,11 @@ fn blanks_before_a_statement_count(rt: HostRuntime) -> Result<(), Fail> {
         (65521, b"error 10 UnknownName\n".as_slice()),
         (65522, b"error 2 TooLong\n".as_slice()),
     ] {
-        let mut site = volume(&rt, alloc, "1")?;
+        let mut sites = vec![in alloc; volume(&rt, alloc, "1")?]?;
+        let site = only(&mut sites)?;
         let mut script = vec![in alloc; b' '; blanks]?;
         script.extend_from_slice(b"GetNelems('n');")?;
-        assert_eq!(rt; run(&rt, alloc, &mut site, &script)?, 0);
+        assert_eq!(rt; run(&rt, alloc, site, &script)?, 0);
         assert_eq!(rt; site.said(), said);
     }
     Ok(())

@@ -3,7 +3,7 @@ use std::alloc::Global;
 use std::test::Fail;
 use std::thread::Threads;
 use ts_disk::MemorySite;
-use ts_programs::{PICKS, answers, bytes_of, damage, migrate, reads, run, volume};
+use ts_programs::{PICKS, answers, bytes_of, damage, migrate, only, reads, run, volume};
 
 /// The byte of a volume that tells its format.
 const FORMAT_BYTE: u64 = 8;
@@ -28,12 +28,13 @@ fn old_volume_with_records(
     alloc: Global,
     script: &[u8],
 ) -> Result<MemorySite, Fail> {
-    let mut site = volume(rt, alloc, "8")?;
-    if !damage(&mut site, FORMAT_BYTE, &[1]) {
+    let mut sites = vec![in alloc; volume(rt, alloc, "8")?]?;
+    let site = only(&mut sites)?;
+    if !damage(site, FORMAT_BYTE, &[1]) {
         return Err(Fail::from("no header"));
     }
-    run(rt, alloc, &mut site, script)?;
-    MemorySite::new(bytes_of(alloc, &mut site)?).map_err(Fail::from)
+    run(rt, alloc, site, script)?;
+    MemorySite::new(bytes_of(alloc, site)?).map_err(Fail::from)
 }
 
 // The same with its journal empty.
@@ -42,40 +43,43 @@ fn old_volume(
     alloc: Global,
     script: &[u8],
 ) -> Result<MemorySite, Fail> {
-    let mut site = old_volume_with_records(rt, alloc, script)?;
-    run(rt, alloc, &mut site, b"")?;
-    MemorySite::new(bytes_of(alloc, &mut site)?).map_err(Fail::from)
+    let mut sites = vec![in alloc; old_volume_with_records(rt, alloc, script)?]?;
+    let site = only(&mut sites)?;
+    run(rt, alloc, site, b"")?;
+    MemorySite::new(bytes_of(alloc, site)?).map_err(Fail::from)
 }
 
 // Readings, and a migration of a volume of the newest format, leave each byte.
 #[test]
 fn a_volume_keeps_its_format_until_it_is_migrated(rt: HostRuntime) -> Result<(), Fail> {
     let alloc = rt.alloc();
-    let mut site = old_volume(&rt, alloc, SERIES)?;
-    let bytes = bytes_of(alloc, &mut site)?;
-    assert_eq!(rt; run(&rt, alloc, &mut site, READINGS)?, 0);
-    assert!(rt; bytes_of(alloc, &mut site)? == bytes);
-    assert_eq!(rt; migrate(&rt, alloc, &mut site)?, 0);
-    assert_eq!(rt; run(&rt, alloc, &mut site, b"")?, 0);
-    let bytes = bytes_of(alloc, &mut site)?;
+    let mut sites = vec![in alloc; old_volume(&rt, alloc, SERIES)?]?;
+    let site = only(&mut sites)?;
+    let bytes = bytes_of(alloc, site)?;
+    assert_eq!(rt; run(&rt, alloc, site, READINGS)?, 0);
+    assert!(rt; bytes_of(alloc, site)? == bytes);
+    assert_eq!(rt; migrate(&rt, alloc, site)?, 0);
+    assert_eq!(rt; run(&rt, alloc, site, b"")?, 0);
+    let bytes = bytes_of(alloc, site)?;
     let calls = site.calls();
-    assert_eq!(rt; migrate(&rt, alloc, &mut site)?, 0);
+    assert_eq!(rt; migrate(&rt, alloc, site)?, 0);
     // A sync and the reads of an opening.
     assert_eq!(rt;
         site.calls().saturating_sub(calls),
         reads(&rt, alloc, "8")?.saturating_add(1)
     );
-    assert!(rt; bytes_of(alloc, &mut site)? == bytes);
+    assert!(rt; bytes_of(alloc, site)? == bytes);
     Ok(())
 }
 
 // Whether a volume holds the row type, the container and the two series, in either format.
 fn holds_series(rt: &(impl Threads + Sync), alloc: Global, bytes: Vec<u8>) -> Result<bool, Fail> {
-    let mut site = MemorySite::new(bytes)?;
+    let mut sites = vec![in alloc; MemorySite::new(bytes)?]?;
+    let site = only(&mut sites)?;
     let status = run(
         rt,
         alloc,
-        &mut site,
+        site,
         b"ListSeries(c1);TSContainerUsage(c1);HideElem('x','2011-01-03 00:00:00');\
         InsElem('y','2011-01-04 00:00:00',7);",
     )?;
@@ -91,8 +95,9 @@ fn holds_series(rt: &(impl Threads + Sync), alloc: Global, bytes: Vec<u8>) -> Re
 #[test]
 fn a_stop_in_a_migration_leaves_either_format(rt: HostRuntime) -> Result<(), Fail> {
     let alloc = rt.alloc();
-    let mut site = old_volume_with_records(&rt, alloc, SERIES)?;
-    assert_eq!(rt; migrate(&rt, alloc, &mut site)?, 0);
+    let mut sites = vec![in alloc; old_volume_with_records(&rt, alloc, SERIES)?]?;
+    let site = only(&mut sites)?;
+    assert_eq!(rt; migrate(&rt, alloc, site)?, 0);
     for call in 0..site.calls() {
         if call > 0 && call.saturating_add(LAST_CALLS) < site.calls() {
             continue;
@@ -112,18 +117,13 @@ fn a_stop_in_a_migration_leaves_either_format(rt: HostRuntime) -> Result<(), Fai
 fn a_migration_that_the_disk_fails_has_its_status(rt: HostRuntime) -> Result<(), Fail> {
     let opening = reads(&rt, rt.alloc(), "8")?;
     for number in [0, opening.saturating_add(1)] {
-        let mut site = old_volume(&rt, rt.alloc(), SERIES)?;
+        let mut sites = vec![in rt.alloc(); old_volume(&rt, rt.alloc(), SERIES)?]?;
+        let site = only(&mut sites)?;
         site.fail(number)?;
-        assert_eq!(rt; migrate(&rt, rt.alloc(), &mut site)?, 5, "at {number}");
-        let mut site = MemorySite::new(bytes_of(rt.alloc(), &mut site)?)?;
-        assert!(rt;
-            answers(
-                &rt,
-                rt.alloc(),
-                &mut site,
-                &[(HIDE, b"error 44 OldFormat\n")]
-            )?
-        );
+        assert_eq!(rt; migrate(&rt, rt.alloc(), site)?, 5, "at {number}");
+        let mut sites = vec![in rt.alloc(); MemorySite::new(bytes_of(rt.alloc(), site)?)?]?;
+        let site = only(&mut sites)?;
+        assert!(rt; answers(&rt, rt.alloc(), site, &[(HIDE, b"error 44 OldFormat\n")])?);
     }
     Ok(())
 }

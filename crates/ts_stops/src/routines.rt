@@ -9,8 +9,8 @@ use std::test::Fail;
 use std::thread::Threads;
 use ts_disk::{MemorySite, Pick};
 use ts_programs::{
-    Course, PICKS, bytes_after, bytes_of, carried_out, is_after, reading_of, reads, run, script_of,
-    states_of, whole_replies,
+    Course, PICKS, bytes_after, bytes_of, carried_out, is_after, only, reading_of, reads, run,
+    script_of, states_of, whole_replies,
 };
 
 /// A series whose page is full, since a page has room for five of these rows; and a row type and a container that
@@ -142,9 +142,10 @@ fn all_after(
 #[test]
 fn a_stop_in_any_routine_leaves_what_was_acknowledged(rt: HostRuntime) -> Result<(), Fail> {
     let alloc = rt.alloc();
-    let mut settled = MemorySite::new(bytes_after(&rt, alloc, BEFORE)?)?;
-    run(&rt, alloc, &mut settled, b"")?;
-    let bytes = bytes_of(alloc, &mut settled)?;
+    let mut settleds = vec![in alloc; MemorySite::new(bytes_after(&rt, alloc, BEFORE)?)?]?;
+    let settled = only(&mut settleds)?;
+    run(&rt, alloc, settled, b"")?;
+    let bytes = bytes_of(alloc, settled)?;
     let states = states_of(&rt, alloc, &ALL, &bytes)?;
     let script = script_of(alloc, &ALL, ALL.statements.len())?;
     let reads = reads(&rt, alloc, "8")?;
@@ -152,16 +153,17 @@ fn a_stop_in_any_routine_leaves_what_was_acknowledged(rt: HostRuntime) -> Result
         if 1 <= call && call <= reads {
             continue;
         }
-        let mut site = MemorySite::new(Vec::from_slice(alloc, &bytes)?)?;
+        let mut sites = vec![in alloc; MemorySite::new(Vec::from_slice(alloc, &bytes)?)?]?;
+        let site = only(&mut sites)?;
         site.fuse(call);
-        run(&rt, alloc, &mut site, &script)?;
+        run(&rt, alloc, site, &script)?;
         let count = whole_replies(site.said());
         if site.calls() <= call {
             assert_eq!(rt; count, ALL.statements.len());
             return Ok(());
         }
         assert!(rt;
-            all_after(&rt, alloc, &states, &site, call, count)?,
+            all_after(&rt, alloc, &states, site, call, count)?,
             "at {call}"
         );
     }
@@ -182,18 +184,19 @@ fn so_does_a_stop_in_the_opening_that_follows(rt: HostRuntime) -> Result<(), Fai
     let stopped = carried_out(&rt, alloc, &ALL, &bytes, all)?;
     assert!(rt; stopped.calls() > 0);
     let left = stopped.image(stopped.calls() - 1, Pick::Old)?;
-    let mut site = MemorySite::new(left)?;
-    assert_eq!(rt; run(&rt, alloc, &mut site, b"")?, 0);
+    let mut sites = vec![in alloc; MemorySite::new(left)?]?;
+    let site = only(&mut sites)?;
+    assert_eq!(rt; run(&rt, alloc, site, b"")?, 0);
     for call in 0..site.calls() {
         if call > 0 && call.saturating_add(HOMEWARD) < site.calls() {
             continue;
         }
         assert!(rt;
-            all_after(&rt, alloc, &states, &site, call, all)?,
+            all_after(&rt, alloc, &states, site, call, all)?,
             "at {call}"
         );
     }
-    let home = bytes_of(alloc, &mut site)?;
+    let home = bytes_of(alloc, site)?;
     assert_eq!(rt; reading_of(&rt, alloc, &ALL, home)?.as_slice(), LEFT);
     Ok(())
 }

@@ -7,7 +7,7 @@ use std::alloc::Global;
 use std::test::Fail;
 use std::thread::Threads;
 use ts_disk::{MemorySite, Pick};
-use ts_programs::{PICKS, bytes_after, reads, run};
+use ts_programs::{PICKS, bytes_after, only, reads, run};
 
 /// Statements that a run carries out, of which each tells whether it was carried out before, and a reading of all that
 /// they make.
@@ -117,10 +117,11 @@ fn holds(
     bytes: Vec<u8>,
     count: usize,
 ) -> Result<bool, Fail> {
-    let mut site = MemorySite::new(bytes)?;
+    let mut sites = vec![in alloc; MemorySite::new(bytes)?]?;
+    let site = only(&mut sites)?;
     let mut script = script_of(alloc, course)?;
     script.extend_from_slice(course.reading)?;
-    let status = run(rt, alloc, &mut site, &script)?;
+    let status = run(rt, alloc, site, &script)?;
     let now = said_after(alloc, course, count)?;
     let next = said_after(alloc, course, count.saturating_add(1))?;
     Ok(status == 0 && (site.said() == now.as_slice() || site.said() == next.as_slice()))
@@ -168,16 +169,17 @@ fn stops(
         if 1 <= call && call <= reads {
             continue;
         }
-        let mut site = MemorySite::new(Vec::from_slice(alloc, &bytes)?)?;
+        let mut sites = vec![in alloc; MemorySite::new(Vec::from_slice(alloc, &bytes)?)?]?;
+        let site = only(&mut sites)?;
         site.fuse(call);
-        run(rt, alloc, &mut site, &script)?;
+        run(rt, alloc, site, &script)?;
         if site.calls() <= call {
             // The run needed no call of this number; its last is the last say.
             let all = whole_replies(site.said()) == course.statements.len();
             return Ok(all && call > reads.saturating_add(20));
         }
         let count = there.max(whole_replies(site.said()));
-        if !all_hold(rt, alloc, course, &site, call, picks, count)? {
+        if !all_hold(rt, alloc, course, site, call, picks, count)? {
             return Ok(false);
         }
     }
@@ -264,9 +266,10 @@ fn holds_or_lacks(
     bytes: Vec<u8>,
     must_lack: bool,
 ) -> Result<bool, Fail> {
-    let mut site = MemorySite::new(bytes)?;
+    let mut sites = vec![in alloc; MemorySite::new(bytes)?]?;
+    let site = only(&mut sites)?;
     let script = b"GetElem('x','2011-01-03 00:00:00');ListSeries(c1);";
-    let status = run(rt, alloc, &mut site, script)?;
+    let status = run(rt, alloc, site, script)?;
     let holds = site.said()
         == b"2011-01-03 00:00:00.00000 1\nok 1\n'x' irregular 1\n'y' irregular 0\nok 2\n".as_slice();
     let lacks = site.said() == b"error 10 UnknownName\n'y' irregular 0\nok 1\n".as_slice();
@@ -289,9 +292,10 @@ fn a_stop_in_a_drop(rt: HostRuntime) -> Result<(), Fail> {
         if 1 <= call && call <= reads {
             continue;
         }
-        let mut site = MemorySite::new(Vec::from_slice(alloc, &bytes)?)?;
+        let mut sites = vec![in alloc; MemorySite::new(Vec::from_slice(alloc, &bytes)?)?]?;
+        let site = only(&mut sites)?;
         site.fuse(call);
-        run(&rt, alloc, &mut site, b"DropSeries('x');")?;
+        run(&rt, alloc, site, b"DropSeries('x');")?;
         let is_said = site.said() == b"ok\n".as_slice();
         if site.calls() <= call {
             assert!(rt; call > reads.saturating_add(2) && is_said);

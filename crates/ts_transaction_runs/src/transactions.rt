@@ -7,7 +7,7 @@ use std::alloc::Global;
 use std::test::Fail;
 use std::thread::Threads;
 use ts_disk::MemorySite;
-use ts_programs::{PICKS, answers, bytes_after, reads, run, volume};
+use ts_programs::{PICKS, answers, bytes_after, only, reads, run, volume};
 
 /// Makes two series.
 const SERIES: &[u8] = b"CreateRowType(rd, t datetime, v integer);TSContainerCreate(c1, rd, 8);\
@@ -20,16 +20,18 @@ const INSERTED: &[u8] = b"ok 2011-01-03 00:00:00.00000\n";
 const COUNT: &[u8] = b"GetNelems('x');";
 
 // A volume with both series.
-fn with_series(rt: &(impl Threads + Sync), alloc: Global) -> Result<MemorySite, Fail> {
-    let mut site = volume(rt, alloc, "8")?;
-    run(rt, alloc, &mut site, SERIES)?;
-    Ok(site)
+fn with_series(rt: &(impl Threads + Sync), alloc: Global) -> Result<Vec<MemorySite>, Fail> {
+    let mut sites = vec![in alloc; volume(rt, alloc, "8")?]?;
+    let site = only(&mut sites)?;
+    run(rt, alloc, site, SERIES)?;
+    Ok(sites)
 }
 
 #[test]
 fn a_rollback_takes_back_what_a_commit_keeps(rt: HostRuntime) -> Result<(), Fail> {
     let alloc = rt.alloc();
-    let mut site = with_series(&rt, alloc)?;
+    let mut sites = with_series(&rt, alloc)?;
+    let site = only(&mut sites)?;
     let talk: [(&[u8], &[u8]); 11] = [
         (b"Begin;", b"ok\n"),
         (INSERTION, INSERTED),
@@ -43,7 +45,7 @@ fn a_rollback_takes_back_what_a_commit_keeps(rt: HostRuntime) -> Result<(), Fail
         (b"Commit;", b"error 50 NotOpen\n"),
         (COUNT, b"ok 1\n"),
     ];
-    assert!(rt; answers(&rt, alloc, &mut site, &talk)?);
+    assert!(rt; answers(&rt, alloc, site, &talk)?);
     Ok(())
 }
 
@@ -51,7 +53,8 @@ fn a_rollback_takes_back_what_a_commit_keeps(rt: HostRuntime) -> Result<(), Fail
 #[test]
 fn a_transaction_takes_32_commands_that_write(rt: HostRuntime) -> Result<(), Fail> {
     let alloc = rt.alloc();
-    let mut site = with_series(&rt, alloc)?;
+    let mut sites = with_series(&rt, alloc)?;
+    let site = only(&mut sites)?;
     let mut script = Vec::from_slice(alloc, b"Begin;")?;
     let mut said = Vec::from_slice(alloc, b"ok\n")?;
     for _ in 0..32 {
@@ -67,18 +70,19 @@ fn a_transaction_takes_32_commands_that_write(rt: HostRuntime) -> Result<(), Fai
         (COUNT, b"ok 0\n"),
         (b"Commit;", b"ok 32\n"),
     ];
-    assert!(rt; answers(&rt, alloc, &mut site, &talk)?);
+    assert!(rt; answers(&rt, alloc, site, &talk)?);
     Ok(())
 }
 
 #[test]
 fn a_transaction_that_is_open_at_the_end_is_given_up(rt: HostRuntime) -> Result<(), Fail> {
     let alloc = rt.alloc();
-    let mut site = with_series(&rt, alloc)?;
+    let mut sites = with_series(&rt, alloc)?;
+    let site = only(&mut sites)?;
     let begun: [(&[u8], &[u8]); 2] = [(b"Begin;", b"ok\n"), (INSERTION, INSERTED)];
-    assert!(rt; answers(&rt, alloc, &mut site, &begun)?);
+    assert!(rt; answers(&rt, alloc, site, &begun)?);
     let after: [(&[u8], &[u8]); 2] = [(COUNT, b"ok 0\n"), (b"Rollback;", b"error 50 NotOpen\n")];
-    assert!(rt; answers(&rt, alloc, &mut site, &after)?);
+    assert!(rt; answers(&rt, alloc, site, &after)?);
     Ok(())
 }
 
@@ -97,8 +101,9 @@ fn holds_all_or_none(
     bytes: Vec<u8>,
     all: bool,
 ) -> Result<bool, Fail> {
-    let mut site = MemorySite::new(bytes)?;
-    let status = run(rt, alloc, &mut site, b"GetNelems('x');GetNelems('y');")?;
+    let mut sites = vec![in alloc; MemorySite::new(bytes)?]?;
+    let site = only(&mut sites)?;
+    let status = run(rt, alloc, site, b"GetNelems('x');GetNelems('y');")?;
     let holds = site.said() == b"ok 2\nok 2\n".as_slice();
     let lacks = site.said() == b"ok 0\nok 0\n".as_slice();
     Ok(status == 0 && (holds || lacks && !all))
@@ -132,15 +137,16 @@ fn a_stop_leaves_a_transaction_whole_or_not_at_all(rt: HostRuntime) -> Result<()
         if 1 <= call && call <= reads {
             continue;
         }
-        let mut site = MemorySite::new(Vec::from_slice(alloc, &bytes)?)?;
+        let mut sites = vec![in alloc; MemorySite::new(Vec::from_slice(alloc, &bytes)?)?]?;
+        let site = only(&mut sites)?;
         site.fuse(call);
-        run(&rt, alloc, &mut site, FOUR)?;
+        run(&rt, alloc, site, FOUR)?;
         let is_said = site.said() == FOUR_SAID;
         if site.calls() <= call {
             assert!(rt; call > reads.saturating_add(2) && is_said);
             return Ok(());
         }
-        assert!(rt; leaves_all_or_none(&rt, alloc, &site, call, is_said)?);
+        assert!(rt; leaves_all_or_none(&rt, alloc, site, call, is_said)?);
     }
     Err(Fail::from("the run has no end"))
 }

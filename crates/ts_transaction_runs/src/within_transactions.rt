@@ -7,7 +7,7 @@ use std::alloc::Global;
 use std::test::Fail;
 use std::thread::Threads;
 use ts_disk::{MemorySite, MemorySource, Pick};
-use ts_programs::{PICKS, bytes_after, bytes_of, reads, run, status};
+use ts_programs::{PICKS, bytes_after, bytes_of, only, reads, run, status};
 
 /// Makes two series, of which one has an element.
 const SERIES: &[u8] = b"CreateRowType(rd, t datetime, v integer);TSContainerCreate(c1, rd, 8);\
@@ -66,13 +66,9 @@ enum Held {
 
 // What a next run finds in a volume, where it is in no transaction.
 fn held_in(rt: &(impl Threads + Sync), alloc: Global, bytes: Vec<u8>) -> Result<Held, Fail> {
-    let mut site = MemorySite::new(bytes)?;
-    let status = run(
-        rt,
-        alloc,
-        &mut site,
-        b"Commit;GetNelems('x');GetNelems('y');",
-    )?;
+    let mut sites = vec![in alloc; MemorySite::new(bytes)?]?;
+    let site = only(&mut sites)?;
+    let status = run(rt, alloc, site, b"Commit;GetNelems('x');GetNelems('y');")?;
     if status == 0 && site.said() == b"error 50 NotOpen\nok 3\nok 2\n".as_slice() {
         return Ok(Held::All);
     }
@@ -86,9 +82,10 @@ fn held_in(rt: &(impl Threads + Sync), alloc: Global, bytes: Vec<u8>) -> Result<
 fn says(rt: &(impl Threads + Sync), alloc: Global, bytes: &[u8]) -> Result<Vec<u64>, Fail> {
     let mut numbers = Vec::new(alloc);
     for count in 0..FOUR.len() {
-        let mut site = MemorySite::new(Vec::from_slice(alloc, bytes)?)?;
+        let mut sites = vec![in alloc; MemorySite::new(Vec::from_slice(alloc, bytes)?)?]?;
+        let site = only(&mut sites)?;
         let count = count.saturating_add(1);
-        let status = run(rt, alloc, &mut site, &script_of(alloc, count)?)?;
+        let status = run(rt, alloc, site, &script_of(alloc, count)?)?;
         if status != 0 || site.said() != said_of(alloc, count)?.as_slice() {
             return Err(Fail::from("another reply"));
         }
@@ -122,9 +119,10 @@ fn fails_well(
     says: &[u64],
     call: u64,
 ) -> Result<bool, Fail> {
-    let mut site = MemorySite::new(Vec::from_slice(alloc, bytes)?)?;
+    let mut sites = vec![in alloc; MemorySite::new(Vec::from_slice(alloc, bytes)?)?]?;
+    let site = only(&mut sites)?;
     site.fail(call)?;
-    let status = run(rt, alloc, &mut site, &script_of(alloc, FOUR.len())?)?;
+    let status = run(rt, alloc, site, &script_of(alloc, FOUR.len())?)?;
     let before = says.iter().filter(|say| **say < call).count();
     let is_say = says.contains(&call);
     let wanted = if is_say { 4 } else { 5 };
@@ -135,12 +133,12 @@ fn fails_well(
         return Ok(false);
     }
     if before < INSIDE {
-        return Ok(left_by(rt, alloc, &mut site)? == Held::Nothing);
+        return Ok(left_by(rt, alloc, site)? == Held::Nothing);
     }
     if is_say {
-        return Ok(left_by(rt, alloc, &mut site)? == Held::All);
+        return Ok(left_by(rt, alloc, site)? == Held::All);
     }
-    leaves_either(rt, alloc, &mut site)
+    leaves_either(rt, alloc, site)
 }
 
 // Whether the bytes, and each image of a stop behind the last call, hold all or none.
@@ -188,14 +186,15 @@ fn a_call_that_fails_leaves_a_transaction_whole_or_not_at_all(rt: HostRuntime) -
 #[test]
 fn a_pull_that_fails_gives_the_transaction_up(rt: HostRuntime) -> Result<(), Fail> {
     let alloc = rt.alloc();
-    let mut site = MemorySite::new(bytes_after(&rt, alloc, SERIES)?)?;
+    let mut sites = vec![in alloc; MemorySite::new(bytes_after(&rt, alloc, SERIES)?)?]?;
+    let site = only(&mut sites)?;
     let script = b"Begin                               ;InsElem('x','2011-01-03 00:00:00',1);\
         InsElem('y','2011-01-03 00:00:00',2);Commit;";
     let mut source = MemorySource::new(Vec::from_slice(alloc, script)?, 37);
     source.fail(3)?;
-    assert_eq!(rt; status(&rt, alloc, &["run"], &mut site, &mut source)?, 3);
+    assert_eq!(rt; status(&rt, alloc, &["run"], site, &mut source)?, 3);
     assert_eq!(rt; site.said(), said_of(alloc, 3)?.as_slice());
-    assert_eq!(rt; left_by(&rt, alloc, &mut site)?, Held::Nothing);
+    assert_eq!(rt; left_by(&rt, alloc, site)?, Held::Nothing);
     Ok(())
 }
 
@@ -214,18 +213,19 @@ fn over_records(
     alloc: Global,
     bytes: &[u8],
     count: usize,
-) -> Result<MemorySite, Fail> {
-    let mut site = MemorySite::new(Vec::from_slice(alloc, bytes)?)?;
+) -> Result<Vec<MemorySite>, Fail> {
+    let mut sites = vec![in alloc; MemorySite::new(Vec::from_slice(alloc, bytes)?)?]?;
+    let site = only(&mut sites)?;
     let mut script = Vec::new(alloc);
     for number in 0..UPDATES {
         let statement = format!(in alloc; "UpdElem('x','2011-01-02 00:00:00',{number});")?;
         script.extend_from_slice(statement.as_bytes())?;
     }
     script.extend_from_slice(script_of(alloc, count)?.as_slice())?;
-    if run(rt, alloc, &mut site, &script)? != 0 {
+    if run(rt, alloc, site, &script)? != 0 {
         return Err(Fail::from("the run failed"));
     }
-    Ok(site)
+    Ok(sites)
 }
 
 // Whether each image of a stop in a call of this number holds all four elements or, where they may be gone, none.
@@ -251,18 +251,19 @@ fn all_hold(
 fn a_stop_in_a_commit_with_a_checkpoint_leaves_all_or_none(rt: HostRuntime) -> Result<(), Fail> {
     let alloc = rt.alloc();
     let bytes = bytes_after(&rt, alloc, SERIES)?;
-    let first = over_records(&rt, alloc, &bytes, INSIDE)?.calls();
-    let mut site = over_records(&rt, alloc, &bytes, FOUR.len())?;
+    let first = only(&mut over_records(&rt, alloc, &bytes, INSIDE)?)?.calls();
+    let mut sites = over_records(&rt, alloc, &bytes, FOUR.len())?;
+    let site = only(&mut sites)?;
     let end = site.calls();
     // A write, a sync, a write and a sync bring the page home; then come the record's four calls, and the say.
     assert_eq!(rt; end.saturating_sub(first), 9);
     for call in first..end {
         let is_say = call.saturating_add(1) == end;
         if call < site.calls() {
-            assert!(rt; all_hold(&rt, alloc, &site, call, !is_say)?, "call {call}");
+            assert!(rt; all_hold(&rt, alloc, site, call, !is_say)?, "call {call}");
         }
     }
-    let bytes = bytes_of(alloc, &mut site)?;
+    let bytes = bytes_of(alloc, site)?;
     assert!(rt;
         bytes
             .get(JOURNAL..)
