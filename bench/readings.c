@@ -1,5 +1,5 @@
 // A volume with an irregular and a regular series of a million elements of one integer, both at the same quarter hours;
-// and their rows as text.
+// their rows as text; and a fold of one that does the least that the format demands.
 #include "volume.h"
 
 // An irregular page has room for 290 cells; edits in any order leave it with some 200.
@@ -73,10 +73,70 @@ static int rows(char **words) {
   return fflush(stdout);
 }
 
+// What is known of the values of a series, or of those of a day.
+struct fold {
+  int64_t sum, count;
+  int32_t least, greatest;
+};
+
+static const struct fold none = {0, 0, INT32_MAX, INT32_MIN};
+
+static void say_fold(const struct fold *fold) {
+  printf("%lld,%.6f,%d,%d\n", (long long)fold->sum, (double)fold->sum / fold->count, fold->least, fold->greatest);
+}
+
+static inline void take(struct fold *fold, const unsigned char *cell) {
+  if (cell[0] != 1) return;
+  uint32_t bytes;
+  memcpy(&bytes, cell + 1, 4);
+  int32_t value = __builtin_bswap32(bytes);
+  fold->sum += value;
+  fold->count++;
+  if (value < fold->least) fold->least = value;
+  if (value > fold->greatest) fold->greatest = value;
+}
+
+// The number of the day of a stamp of the irregular series.
+static inline int64_t day_of(const unsigned char *cell) {
+  uint64_t bytes;
+  memcpy(&bytes, cell, 8);
+  return (int64_t)__builtin_bswap64(bytes) / (96 * quarter);
+}
+
+// Folds a series in the order of its stamps, all of it, or day by day: each of its pages is read once.
+static int fold_series(int volume, int irregular, int by_days) {
+  struct fold fold = none;
+  uint32_t pages = irregular ? IRREGULAR : REGULAR, first = FIRST + (irregular ? 0 : IRREGULAR), n = 0;
+  int64_t day = -1;
+  for (uint32_t i = 0; i < pages; i++) {
+    if (pread(volume, page, PAGE, (off_t)(first + (uint64_t)i * 1999 % pages) * PAGE) != PAGE) return 1;
+    uint32_t filled = page[3] << 8 | page[4];
+    const unsigned char *cell = page + HEAD;
+    for (uint32_t k = 0; k < filled; k++, n++, cell += irregular ? CELL : OFFSET_CELL) {
+      if (cell[0] != 1) continue;
+      if (by_days) {
+        int64_t own = irregular ? day_of(cell + 1) : n / 96;
+        if (own != day && fold.count > 0) { say_fold(&fold); fold = none; }
+        day = own;
+      }
+      take(&fold, cell + (irregular ? 9 : 1));
+    }
+  }
+  say_fold(&fold);
+  return fflush(stdout);
+}
+
 int main(int count, char **words) {
   if (count == 3 && strcmp(words[1], "fill") == 0) {
     int volume = open(words[2], O_RDWR | O_CREAT | O_TRUNC, 0644);
     return volume < 0 || fill(volume);
+  }
+  // fold VOLUME SERIES days|all TIMES
+  if (count == 6 && strcmp(words[1], "fold") == 0) {
+    int volume = open(words[2], O_RDONLY), failed = volume < 0;
+    for (int times = atoi(words[5]); times > 0 && !failed; times--)
+      failed = fold_series(volume, strcmp(words[3], "irregular") == 0, strcmp(words[4], "days") == 0);
+    return failed;
   }
   return count == 6 && strcmp(words[1], "rows") == 0 ? rows(words + 2) : 2;
 }
