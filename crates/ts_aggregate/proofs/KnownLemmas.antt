@@ -4,7 +4,7 @@ use Rattle.std.specs.Prelude.{IfSome, option_map}
 use Rattle.std.proofs.lemmas.List.{get_or_read}
 use Rattle.ts_row.specs.declared.kind.Column.{Column}
 use Rattle.ts_row.specs.declared.kind.ColumnKind.{ColumnKind}
-use Rattle.ts_row.specs.RowType.{column_width, width_of}
+use Rattle.ts_row.specs.Row.{column_width, width_of}
 use Rattle.ts_row.specs.Decoding.{number_in}
 use Rattle.ts_aggregate.specs.declared.cells.RowCells.{RowCells}
 use Rattle.ts_aggregate.specs.declared.cells.ValuePosition.{ValuePosition}

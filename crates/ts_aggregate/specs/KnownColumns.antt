@@ -3,7 +3,7 @@ use Rattle.std.specs.Prelude.{ℕ, ◌+◌, ◌-◌, List, [], map, take, slice_
 use Rattle.ts_row.specs.declared.kind.Column.{Column}
 use Rattle.ts_row.specs.declared.kind.ColumnKind.{ColumnKind}
 use Rattle.ts_row.specs.declared.kind.ColumnKind.TheVariants.{Integer}
-use Rattle.ts_row.specs.RowType.{column_width, width_of}
+use Rattle.ts_row.specs.Row.{column_width, width_of}
 use Rattle.ts_row.specs.Decoding.{number_in}
 use Rattle.ts_aggregate.specs.declared.cells.RowCells.{RowCells}
 use Rattle.ts_aggregate.specs.declared.cells.ValuePosition.{ValuePosition}

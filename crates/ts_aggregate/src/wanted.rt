@@ -1,7 +1,7 @@
 // Which groups are asked for.
 ghost use Rattle.std.specs.Prelude.{◌≡◌, ℤ, ◌<ℤ◌, [], None};
 ghost use Rattle.ts_base.specs.Moment.{IsStamp};
-ghost use Rattle.ts_calendar.specs.Intervals.{IsBefore};
+ghost use Rattle.ts_calendar.specs.Calendars.{IsBefore};
 ghost use Rattle.ts_offset.specs.Grid.{held_start};
 ghost use Rattle.ts_aggregate.specs.Groups.{asked_start, IsGoingOn, IsSpan};
 
