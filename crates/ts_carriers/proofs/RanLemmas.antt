@@ -8,7 +8,8 @@ use Rattle.ts_replies.proofs.Steps.{none_good, answered_then, moment_more, momen
 use Rattle.ts_replies.proofs.Hearing.{fair_more, fair_then}
 use Rattle.ts_carriers.specs.declared.fault.RunFault.{RunFault}
 use Rattle.ts_carriers.specs.declared.fault.RunFault.TheVariants.{Disk, Output}
-use Rattle.ts_carriers.specs.Run.{Carrier, IsGoodRun, SaysFairly, Answered, Ran}
+use Rattle.ts_carriers.specs.Run.{Carrier, SaysFairly, Answered, Ran}
+use Rattle.ts_replies.specs.Good.{IsGoodMoment}
 use Rattle.ts_carriers.proofs.SayingLemmas.{IsSteady, rose_on}
 
 -- a fault is the same of a run with another value
@@ -17,9 +18,9 @@ same_fault a b is = let e : a ≡ b = cc in ap Err e
 
 module _ {E C I : Type 0} (c : Carrier E C) (p : Protocol C I) (steady : IsSteady c p) where
   -- a moment in which nothing was done yet
-  pub good_now : (e : E) (state : C) (asked : List I) (v : Device) → Lawful c.tells v → c.stands e state v → LeavesOnly v v (IsGoodRun p state asked v.said)
+  pub good_now : (e : E) (state : C) (asked : List I) (v : Device) → Lawful c.tells v → c.stands e state v → LeavesOnly v v (IsGoodMoment p state asked v.said)
   good_now e state asked v lawful at =
-      started c.tells v (IsGoodRun p state asked v.said) lawful (λ image now. (
+      started c.tells v (IsGoodMoment p state asked v.said) lawful (λ image now. (
         [],
         sym (append-nil v.said),
         none_good p steady.apart (p.means image) state asked (steady.means e state v at image now),
@@ -83,7 +84,7 @@ module _ {E C I : Type 0} (c : Carrier E C) (p : Protocol C I) (steady : IsStead
     answered = tt;
     fair = λ told state at. let fair = run.fair told state at in (fair.0, fair.1, fair_more p steady.apart state asked others fair.0 fair.2);
     moments = λ told state at.
-        leaves_map v w (IsGoodRun p state asked v.said) (IsGoodRun p state (asked ++ others) v.said) (λ image said. moment_more p steady.apart image said v.said state asked others) (run.moments told state at);
+        leaves_map v w (IsGoodMoment p state asked v.said) (IsGoodMoment p state (asked ++ others) v.said) (λ image said. moment_more p steady.apart image said v.said state asked others) (run.moments told state at);
     disk = λ is. run.disk (same_fault {T = T} {U = U} fault Disk is);
     output = λ is. run.output (same_fault {T = T} {U = U} fault Output is);
     no_fault = λ no. run.no_fault (λ is. no (same_fault {T = U} {U = T} fault Disk is));
@@ -107,11 +108,11 @@ module _ {E C I : Type 0} (c : Carrier E C) (p : Protocol C I) (steady : IsStead
         fair_then p steady.apart state asked others so_far.gained fair.0 (length asked) so_far.last so_far.all fair.2,
       )
 
-      good_behind : LeavesOnly x w (IsGoodRun p so_far.last others x.said) → LeavesOnly v w (IsGoodRun p state (asked ++ others) v.said)
+      good_behind : LeavesOnly x w (IsGoodMoment p so_far.last others x.said) → LeavesOnly v w (IsGoodMoment p state (asked ++ others) v.said)
       good_behind good =
-          then_on v x w (IsGoodRun p state (asked ++ others) v.said)
-          (leaves_map v x (IsGoodRun p state asked v.said) (IsGoodRun p state (asked ++ others) v.said) (λ image said. moment_more p steady.apart image said v.said state asked others) (first.moments told state at))
-          (leaves_map x w (IsGoodRun p so_far.last others x.said) (IsGoodRun p state (asked ++ others) v.said) (λ image said. moment_then p steady.apart image said v.said state asked others so_far.gained x.said so_far.last so_far.all so_far.said) good)
+          then_on v x w (IsGoodMoment p state (asked ++ others) v.said)
+          (leaves_map v x (IsGoodMoment p state asked v.said) (IsGoodMoment p state (asked ++ others) v.said) (λ image said. moment_more p steady.apart image said v.said state asked others) (first.moments told state at))
+          (leaves_map x w (IsGoodMoment p so_far.last others x.said) (IsGoodMoment p state (asked ++ others) v.said) (λ image said. moment_then p steady.apart image said v.said state asked others so_far.gained x.said so_far.last so_far.all so_far.said) good)
 
     pub ran_then : {U : Type 0} (r : Result U RunFault) → Ran c p others r f h x w → Ran c p (asked ++ others) r e h v w
     ran_then (Ok y) second = record {

@@ -8,7 +8,8 @@ use Rattle.ts_replies.specs.Acknowledged.{Protocol, IsStep, TellsApart}
 use Rattle.ts_replies.proofs.Steps.{one_answered, one_fair, one_good, one_waits}
 use Rattle.ts_carriers.specs.declared.fault.RunFault.{RunFault}
 use Rattle.ts_carriers.specs.declared.fault.RunFault.TheVariants.{Disk, Output}
-use Rattle.ts_carriers.specs.Run.{Carrier, IsGoodRun, Ran, SaysReply}
+use Rattle.ts_carriers.specs.Run.{Carrier, Ran, SaysReply}
+use Rattle.ts_replies.specs.Good.{IsGoodMoment}
 use Rattle.ts_carriers.proofs.ReplyLemmas.{reply_said}
 
 -- the two truth values are apart
@@ -52,17 +53,17 @@ module _ {E C I : Type 0} (c : Carrier E C) (p : Protocol C I) (steady : IsStead
 
   module _ (e f : E) (v x : Device) (steps : Steps c p item line e f v x) where
     module _ (told : IsTrue c.tells) (state : C) (at : c.stands e state v) where
-      waits_good : (image said : List ℕ) → Waits p state item v image said → IsGoodRun p state (item ∷ []) v.said image said
+      waits_good : (image said : List ℕ) → Waits p state item v image said → IsGoodMoment p state (item ∷ []) v.said image said
       waits_good image said now = ([], now.1 ∙ sym (append-nil v.said), one_waits p steady.apart (p.means image) state item now.0)
 
-      pub silent_moments : LeavesOnly v x (IsGoodRun p state (item ∷ []) v.said)
-      silent_moments = leaves_map v x (Waits p state item v) (IsGoodRun p state (item ∷ []) v.said) waits_good (steps.waits told state at)
+      pub silent_moments : LeavesOnly v x (IsGoodMoment p state (item ∷ []) v.said)
+      silent_moments = leaves_map v x (Waits p state item v) (IsGoodMoment p state (item ∷ []) v.said) waits_good (steps.waits told state at)
 
       module _ {F : Type 0} (w : Device) (q : Result Unit F) (says : SaysReply c.tells line q x w) where
-        pub saying_moments : LeavesOnly v w (IsGoodRun p state (item ∷ []) v.said)
+        pub saying_moments : LeavesOnly v w (IsGoodMoment p state (item ∷ []) v.said)
         saying_moments =
             let next = steps.step told state at in
-            goes_on v x w (IsGoodRun p state (item ∷ []) v.said) _ silent_moments (says.time told) (λ image said now.
+            goes_on v x w (IsGoodMoment p state (item ∷ []) v.said) _ silent_moments (says.time told) (λ image said now.
             let here : p.means image next.0 = steady.means f next.0 x next.2 image (says.crash image now.0) in (
               now.1.0,
               now.1.1 ∙ ap (λ (l : List ℕ). l ++ now.1.0) steps.keeps.said,

@@ -11,11 +11,6 @@ use Rattle.ts_carriers.specs.declared.fault.RunFault.TheVariants.{Disk, Output}
 abbrev pub SaysFairly : {C I : Type 0} → Protocol C I → C → List I → Device → Device → Type 0
 SaysFairly p cat asked v w = (gained : List ℕ) × (w.said ≡ v.said ++ gained) × IsFair p cat asked gained
 
--- An image and the bytes said by then: these are replies from `before` on, and the image means what is committed after
--- exactly the acknowledged items, or after these and the next.
-abbrev pub IsGoodRun : {C I : Type 0} → Protocol C I → C → List I → List ℕ → List ℕ → List ℕ → Type 0
-IsGoodRun p cat asked before image said = IsGoodMoment p cat asked before image said
-
 -- What carries items out: whether its device tells what it holds, when it can go on, and when it stands at a state. A
 -- run is said in these words, whatever its items and its states are.
 pub record Carrier (E C : Type 0) : Type 1 where
@@ -58,7 +53,7 @@ pub record Ran {E C I T : Type 0} (c : Carrier E C) (p : Protocol C I)
   pub ready : OnOk result (c.ready f w)
   pub answered : OnOk result (IsTrue c.tells → (state : C) → c.stands e state v → Answered c p state asked f v w)
   pub fair : IsTrue c.tells → (state : C) → c.stands e state v → SaysFairly p state asked v w
-  pub moments : IsTrue c.tells → (state : C) → c.stands e state v → LeavesOnly v w (IsGoodRun p state asked v.said)
+  pub moments : IsTrue c.tells → (state : C) → c.stands e state v → LeavesOnly v w (IsGoodMoment p state asked v.said)
   pub disk : result ≡ Err Disk → Rose v.faults w.faults
   pub output : result ≡ Err Output → Rose v.say_faults w.say_faults
   -- only a failed call raises its count

@@ -5,7 +5,8 @@ use Rattle.ts_disk.specs.Device.{Device, FirstSync}
 use Rattle.ts_disk.specs.Input.{Input}
 use Rattle.ts_replies.specs.Acknowledged.{Protocol, TellsApart}
 use Rattle.ts_replies.proofs.Steps.{none_good}
-use Rattle.ts_carriers.specs.Run.{SaysFairly, IsGoodRun}
+use Rattle.ts_carriers.specs.Run.{SaysFairly}
+use Rattle.ts_replies.specs.Good.{IsGoodMoment}
 use Rattle.ts_opening.specs.Taken.{Took, RanFrom}
 
 module _ {C I : Type 0} (p : Protocol C I) (apart : TellsApart p) where
@@ -14,12 +15,12 @@ module _ {C I : Type 0} (p : Protocol C I) (apart : TellsApart p) where
   silent state asked v w same = ([], same ∙ sym (append-nil v.said), (none_good p apart (λ state. Unit {0}) state asked tt).fair)
 
   -- and good where the image means the state
-  pub good_first : (state : C) (asked : List I) (before image said : List ℕ) → p.means image state → said ≡ before → IsGoodRun p state asked before image said
+  pub good_first : (state : C) (asked : List I) (before image said : List ℕ) → p.means image state → said ≡ before → IsGoodMoment p state asked before image said
   good_first state asked before image said means same = ([], same ∙ sym (append-nil before), none_good p apart (p.means image) state asked means)
 
   -- where nothing was pending, each moment is good
   pub ran_from : (limit : ℕ) (IsEnd : List ℕ → ℕ → Type 0) (asked : Bool → List ℕ → List I) (from : List ℕ → C) (status : ℕ) (v w : Device) (i j : Input) (took : Took limit IsEnd status i j)
-      → p.means v.held (from took.taken) → SaysFairly p (from took.taken) (asked took.ended took.taken) v w → FirstSync v w (IsGoodRun p (from took.taken) (asked took.ended took.taken) v.said) → RanFrom p limit IsEnd asked from status v w i j
+      → p.means v.held (from took.taken) → SaysFairly p (from took.taken) (asked took.ended took.taken) v w → FirstSync v w (IsGoodMoment p (from took.taken) (asked took.ended took.taken) v.said) → RanFrom p limit IsEnd asked from status v w i j
   ran_from limit IsEnd asked from status v w i j took means fair moments = record {
     took = took;
     fair = fair;

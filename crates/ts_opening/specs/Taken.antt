@@ -3,7 +3,8 @@ use Rattle.std.specs.Prelude.{◌≡◌, ℕ, ◌<◌, ◌≤◌, Bool, IsTrue, 
 use Rattle.ts_disk.specs.Device.{Device, FirstSync, Only}
 use Rattle.ts_disk.specs.Input.{Input}
 use Rattle.ts_replies.specs.Acknowledged.{Protocol}
-use Rattle.ts_carriers.specs.Run.{SaysFairly, IsGoodRun}
+use Rattle.ts_carriers.specs.Run.{SaysFairly}
+use Rattle.ts_replies.specs.Good.{IsGoodMoment}
 
 -- The bytes that were taken from a source, and whether it answered its end: then nothing is left, the limit was kept,
 -- and with these bytes the status may be that of an end.
@@ -33,7 +34,7 @@ pub record RanFrom {C I : Type 0} (p : Protocol C I) (limit : ℕ) (IsEnd : List
   pub fair : SaysFairly p (from took.taken) (asked took.ended took.taken) v w
   -- From the end of the first sync on each moment is good; before it, and in the whole call where no sync answered Ok,
   -- each is an image of the entry with nothing said.
-  pub moments : FirstSync v w (IsGoodRun p (from took.taken) (asked took.ended took.taken) v.said)
+  pub moments : FirstSync v w (IsGoodMoment p (from took.taken) (asked took.ended took.taken) v.said)
   -- where nothing was pending at the entry, each moment of the call is good
   pub at_rest : Only v.held v.images → (image said : List ℕ) → w.since v.clock image said
-      → IsGoodRun p (from took.taken) (asked took.ended took.taken) v.said image said
+      → IsGoodMoment p (from took.taken) (asked took.ended took.taken) v.said image said

@@ -36,7 +36,8 @@ use Rattle.ts_carriers.specs.declared.fault.RunFault.{RunFault}
 use Rattle.ts_carriers.specs.declared.fault.RunFault.TheVariants.{Disk, Output}
 use Rattle.ts_script_runs.proofs.ApartLemmas.{apart}
 use Rattle.ts_script_runs.specs.Run.{script, by_engine}
-use Rattle.ts_carriers.specs.Run.{IsGoodRun, Ran}
+use Rattle.ts_carriers.specs.Run.{Ran}
+use Rattle.ts_replies.specs.Good.{IsGoodMoment}
 use Rattle.ts_carriers.proofs.CallerLemmas.{IsSteady, Waits, Steps, said_line}
 
 -- where nothing is written, an engine stands where it stood
@@ -200,7 +201,7 @@ failed_ran tells command r out e f v x is stepped =
       answered = tt;
       fair = λ told state at. ([], moves.others.said ∙ sym (append-nil v.said), (none_good script apart (λ s. Unit {0}) state (Ok command ∷ []) tt).fair);
       moments = λ told state at.
-          leaves_map v x (Waits script state (Ok command) v) (IsGoodRun script state (Ok command ∷ []) v.said)
+          leaves_map v x (Waits script state (Ok command) v) (IsGoodMoment script state (Ok command ∷ []) v.said)
           (λ image said now. ([], now.1 ∙ sym (append-nil v.said), one_waits script apart (script.means image) state (Ok command) now.0))
           (moves.moments told state at);
       disk = λ e. moves.fault.0;

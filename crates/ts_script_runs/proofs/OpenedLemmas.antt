@@ -15,7 +15,8 @@ use Rattle.ts_script_runs.specs.Run.{script}
 use Rattle.ts_opening.specs.Opening.{status_of_opening, OpensStore}
 use Rattle.ts_script_runs.specs.Script.{most_script, IsScriptEnd, asked_of, OpenedRan, ScriptFrom, ScriptRan}
 use Rattle.ts_carriers.proofs.CallerLemmas.{never, rose_on}
-use Rattle.ts_carriers.specs.Run.{IsGoodRun, SaysFairly, AllDone}
+use Rattle.ts_carriers.specs.Run.{SaysFairly, AllDone}
+use Rattle.ts_replies.specs.Good.{IsGoodMoment}
 use Rattle.ts_opening.specs.Taken.{Took, TookEnough, TookTooMuch}
 use Rattle.ts_opening.proofs.CallerLemmas.{first_then, first_now, good_first, ran_from, silent, unopened_now, unopened_store, unopened_status, unopened_unwritten, is_unopened, opened_store}
 
@@ -27,12 +28,12 @@ taken_enough : (i : Input) → TookEnough most_script i i
 taken_enough i = record { taken = []; cut = refl; short = omega arith }
 
 -- what was said and what a stop leaves
-script_from : (cat : Catalogue) (status : ℕ) (v w : Device) (i j : Input) → MeansCatalogue v.held cat → (took : Took most_script IsScriptEnd status i j) → SaysFairly script (resting cat) (asked_of took.ended took.taken) v w → FirstSync v w (IsGoodRun script (resting cat) (asked_of took.ended took.taken) v.said) → ScriptFrom cat status v w i j
+script_from : (cat : Catalogue) (status : ℕ) (v w : Device) (i j : Input) → MeansCatalogue v.held cat → (took : Took most_script IsScriptEnd status i j) → SaysFairly script (resting cat) (asked_of took.ended took.taken) v w → FirstSync v w (IsGoodMoment script (resting cat) (asked_of took.ended took.taken) v.said) → ScriptFrom cat status v w i j
 script_from cat status v w i j means took fair moments = ran_from script apart most_script IsScriptEnd asked_of (λ taken. resting cat) status v w i j took means fair moments
 
 -- The run ends before the script is pulled, with nothing said.
 unpulled : (tells told : Bool) (status : ℕ) (v w : Device) (i : Input) → OpensStore tells status v w → (status ≡ 5) ⊎ ((status ≡ 6) ⊎ (status ≡ 7)) → w.said ≡ v.said → w.say_faults ≡ v.say_faults
-    → (IsTrue tells → (cat : Catalogue) → MeansCatalogue v.held cat → (asked : List Request) → FirstSync v w (IsGoodRun script (resting cat) asked v.said))
+    → (IsTrue tells → (cat : Catalogue) → MeansCatalogue v.held cat → (asked : List Request) → FirstSync v w (IsGoodMoment script (resting cat) asked v.said))
     → (status ≡ 7 → (w.held ≡ v.held) × Within v.images w.images) → ScriptRan tells told status v w i i
 unpulled tells told status v w i store which said say_faults first unwritten = record {
   store = store;
@@ -64,12 +65,12 @@ unpulled tells told status v w i store which said say_faults first unwritten = r
 -- want of memory for the buffers: nothing is done
 pub unbuffered : (tells told : Bool) (v : Device) (i : Input) → Lawful tells v → ScriptRan tells told 7 v v i i
 unbuffered tells told v i lawful =
-    unpulled tells told 7 v v i (unopened_now tells v lawful) (inr (inr refl)) refl refl (λ t cat means asked. first_now tells v (IsGoodRun script (resting cat) asked v.said) lawful) (λ seven. (refl, λ image now. now))
+    unpulled tells told 7 v v i (unopened_now tells v lawful) (inr (inr refl)) refl refl (λ t cat means asked. first_now tells v (IsGoodMoment script (resting cat) asked v.said) lawful) (λ seven. (refl, λ image now. now))
 
 -- the opening, from its first sync on
-opening : (tells : Bool) (r : Result Engine SurveyFault) (v y : Device) → Started tells r v y → IsTrue tells → (cat : Catalogue) → MeansCatalogue v.held cat → (asked : List Request) → FirstSync v y (IsGoodRun script (resting cat) asked v.said)
+opening : (tells : Bool) (r : Result Engine SurveyFault) (v y : Device) → Started tells r v y → IsTrue tells → (cat : Catalogue) → MeansCatalogue v.held cat → (asked : List Request) → FirstSync v y (IsGoodMoment script (resting cat) asked v.said)
 opening tells r v y started told cat means asked =
-    first_map v y (StillMeans cat v) (IsGoodRun script (resting cat) asked v.said) (λ image said now. good_first script apart (resting cat) asked v.said image said now.0 now.1) (started.moments told cat means)
+    first_map v y (StillMeans cat v) (IsGoodMoment script (resting cat) asked v.said) (λ image said now. good_first script apart (resting cat) asked v.said image said now.0 now.1) (started.moments told cat means)
 
 -- the volume was not opened
 pub unopened : (tells told : Bool) (fault : SurveyFault) (v y : Device) (i : Input) → Started tells (Err fault) v y → ScriptRan tells told (status_of_opening fault) v y i i
@@ -85,10 +86,10 @@ module _ (tells told : Bool) (engine : Engine) (v y w : Device) (i j : Input) (s
   fair_from t s cat means =
       let part = ran.fair t s (resting cat) (started.at t cat means) in
       let asked = asked_of part.took.ended part.took.taken in
-      let good : LeavesOnly y w (IsGoodRun script (resting cat) asked v.said) = subst (λ (l : List ℕ). LeavesOnly y w (IsGoodRun script (resting cat) asked l)) said_first part.moments in
+      let good : LeavesOnly y w (IsGoodMoment script (resting cat) asked v.said) = subst (λ (l : List ℕ). LeavesOnly y w (IsGoodMoment script (resting cat) asked l)) said_first part.moments in
       script_from cat status v w i j means part.took
       (part.fair.0, part.fair.1 ∙ ap (λ (l : List ℕ). l ++ part.fair.0) said_first, part.fair.2)
-      (first_then v y w (IsGoodRun script (resting cat) asked v.said) (opening tells (Ok engine) v y started t cat means asked) (started.synced t) good (ran.syncs t))
+      (first_then v y w (IsGoodMoment script (resting cat) asked v.said) (opening tells (Ok engine) v y started t cat means asked) (started.synced t) good (ran.syncs t))
 
   done_from : (cat : Catalogue) (asked : List Request) → AllDone script (resting cat) asked y w → AllDone script (resting cat) asked v w
   done_from cat asked done = record {

@@ -10,7 +10,8 @@ use Rattle.ts_carriers.specs.declared.fault.RunFault.{RunFault}
 use Rattle.ts_carriers.specs.declared.fault.RunFault.TheVariants.{Disk, Output}
 use Rattle.ts_script_runs.specs.Run.{script, by_engine}
 use Rattle.ts_carriers.proofs.CallerLemmas.{never}
-use Rattle.ts_carriers.specs.Run.{IsGoodRun, SaysFairly, Answered, Ran, status_of, status_of_end, AllDone}
+use Rattle.ts_carriers.specs.Run.{SaysFairly, Answered, Ran, status_of, status_of_end, AllDone}
+use Rattle.ts_replies.specs.Good.{IsGoodMoment}
 use Rattle.ts_opening.specs.Taken.{Took}
 use Rattle.ts_script_runs.specs.Script.{asked_in, asked_of, most_script, IsScriptEnd, RanOn, OpenedRan}
 
@@ -40,11 +41,11 @@ done tells state asked other f v w same all = subst (λ (l : List Request). AllD
 })
 
 -- what was said and what a stop leaves
-ran_on : (state : State) (status : ℕ) (asked : List Request) (v w : Device) (i j : Input) (took : Took most_script IsScriptEnd status i j) → asked ≡ asked_of took.ended took.taken → SaysFairly script state asked v w → LeavesOnly v w (IsGoodRun script state asked v.said) → RanOn script most_script IsScriptEnd asked_of state status v w i j
+ran_on : (state : State) (status : ℕ) (asked : List Request) (v w : Device) (i j : Input) (took : Took most_script IsScriptEnd status i j) → asked ≡ asked_of took.ended took.taken → SaysFairly script state asked v w → LeavesOnly v w (IsGoodMoment script state asked v.said) → RanOn script most_script IsScriptEnd asked_of state status v w i j
 ran_on state status asked v w i j took same fair moments = record {
   took = took;
   fair = subst (λ (l : List Request). SaysFairly script state l v w) same fair;
-  moments = subst (λ (l : List Request). LeavesOnly v w (IsGoodRun script state l v.said)) same moments;
+  moments = subst (λ (l : List Request). LeavesOnly v w (IsGoodMoment script state l v.said)) same moments;
 }
 
 abbrev took_part : (status : ℕ) (i j : Input) (taken : List ℕ) → i.left ≡ taken ++ j.left → Took most_script IsScriptEnd status i j

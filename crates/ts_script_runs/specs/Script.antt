@@ -9,7 +9,8 @@ use Rattle.ts_model.specs.Catalogue.{Catalogue}
 use Rattle.ts_answer.specs.State.{State, resting}
 use Rattle.ts_volume.specs.Volume.{MeansCatalogue}
 use Rattle.ts_opening.specs.Engine.{Kept, IsAt}
-use Rattle.ts_carriers.specs.Run.{IsGoodRun, SaysFairly, AllDone}
+use Rattle.ts_carriers.specs.Run.{SaysFairly, AllDone}
+use Rattle.ts_replies.specs.Good.{IsGoodMoment}
 use Rattle.ts_opening.specs.Opening.{OpensStore}
 use Rattle.ts_opening.specs.Taken.{Took, TookTooMuch, TookEnough, RanFrom}
 use Rattle.ts_script_runs.specs.Run.{script}
@@ -48,7 +49,7 @@ pub record RanOn {C I : Type 0} (p : Protocol C I) (limit : ℕ) (IsEnd : List �
     (asked : Bool → List ℕ → List I) (state : C) (status : ℕ) (v w : Device) (i j : Input) : Type 0 where
   pub took : Took limit IsEnd status i j
   pub fair : SaysFairly p state (asked took.ended took.taken) v w
-  pub moments : LeavesOnly v w (IsGoodRun p state (asked took.ended took.taken) v.said)
+  pub moments : LeavesOnly v w (IsGoodMoment p state (asked took.ended took.taken) v.said)
 
 -- What a script does over an engine.
 pub record OpenedRan (tells told : Bool) (e : Kept) (status : ℕ) (v w : Device) (i j : Input) : Type 0 where

@@ -21,7 +21,8 @@ use Rattle.ts_sessions.specs.Steps.{Turn, session_line, step_of, machine_answer}
 use Rattle.ts_session_turns.specs.Faults as faults
 use Rattle.ts_carriers.specs.declared.fault.RunFault.{RunFault}
 use Rattle.ts_carriers.specs.declared.fault.RunFault.TheVariants.{Disk, Output}
-use Rattle.ts_carriers.specs.Run.{IsGoodRun, Ran, SaysReply}
+use Rattle.ts_carriers.specs.Run.{Ran, SaysReply}
+use Rattle.ts_replies.specs.Good.{IsGoodMoment}
 use Rattle.ts_carriers.proofs.CallerLemmas.{answered_line, answered_ran, Steps, Waits}
 use Rattle.ts_session_turns.specs.Hand.{Hand, IsHandReady}
 use Rattle.ts_session_turns.specs.Turned.{BeforeOrBehind, Turned}
@@ -82,7 +83,7 @@ module _ (tells : Bool) (who : ℕ) (request : Request) (h k : Hand) (v x : Devi
     answered = tt;
     fair = λ told m at. ([], turned.others.said ∙ sym (append-nil v.said), (none_good sessions (steady tells).apart (λ n. Unit {0}) m (turn_of who request ∷ []) tt).fair);
     moments = λ told m at.
-        leaves_map v x (Waits sessions m (turn_of who request) v) (IsGoodRun sessions m (turn_of who request ∷ []) v.said)
+        leaves_map v x (Waits sessions m (turn_of who request) v) (IsGoodMoment sessions m (turn_of who request ∷ []) v.said)
         (λ image said now. ([], now.1 ∙ sym (append-nil v.said), one_waits sessions (steady tells).apart (sessions.means image) m (turn_of who request) now.0))
         (waits_of m (turned.moments told m at));
     disk = λ is. turned.disk refl;

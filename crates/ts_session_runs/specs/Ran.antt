@@ -6,7 +6,8 @@ use Rattle.ts_model.specs.Catalogue.{Catalogue}
 use Rattle.ts_answer.specs.State.{resting}
 use Rattle.ts_sessions.specs.Machine.{start}
 use Rattle.ts_sessions.specs.Steps.{Turn}
-use Rattle.ts_carriers.specs.Run.{SaysFairly, IsGoodRun, AllDone}
+use Rattle.ts_carriers.specs.Run.{SaysFairly, AllDone}
+use Rattle.ts_replies.specs.Good.{IsGoodMoment}
 use Rattle.ts_session_turns.specs.Engine.{Kept, IsAt}
 use Rattle.ts_session_runs.specs.Carrier.{sessions}
 
@@ -18,7 +19,7 @@ pub record SessionsOver (tells : Bool) (e : Kept) (status count : ℕ) (asked : 
   pub fair : IsTrue tells → (cat : Catalogue) → IsAt tells e (resting cat) v → SaysFairly sessions (start count cat) asked v w
   -- at each moment the volume means what is committed after exactly the turns that are answered, or these and the next
   pub moments : IsTrue tells → (cat : Catalogue) → IsAt tells e (resting cat) v
-      → LeavesOnly v w (IsGoodRun sessions (start count cat) asked v.said)
+      → LeavesOnly v w (IsGoodMoment sessions (start count cat) asked v.said)
   -- at 0 every turn is answered, and the volume, with nothing pending, means what is committed after them
   pub all : status ≡ 0 → IsTrue tells → (cat : Catalogue) → IsAt tells e (resting cat) v
       → AllDone sessions (start count cat) asked v w

@@ -12,7 +12,8 @@ use Rattle.ts_container.specs.declared.fault.SurveyFault.{SurveyFault}
 use Rattle.ts_volume.specs.Volume.{MeansCatalogue}
 use Rattle.ts_opening.specs.Engine.{Engine}
 use Rattle.ts_opening.specs.Engine.{Started, StillMeans}
-use Rattle.ts_carriers.specs.Run.{SaysFairly, IsGoodRun, AllDone}
+use Rattle.ts_carriers.specs.Run.{SaysFairly, AllDone}
+use Rattle.ts_replies.specs.Good.{IsGoodMoment}
 use Rattle.ts_carriers.proofs.CallerLemmas.{rose_on}
 use Rattle.ts_opening.specs.Opening.{status_of_opening}
 use Rattle.ts_opening.specs.Taken.{Took}
@@ -30,13 +31,13 @@ apart = told_apart MeansCatalogue
 
 -- what was said and what a stop leaves
 sessions_from : (seed : ℕ) (cat : Catalogue) (status : ℕ) (v w : Device) (i j : Input) → MeansCatalogue v.held cat → (took : Took most_text IsTextEnd status i j) → SaysFairly protocol (begun cat took.taken) (asked_of seed took.ended took.taken) v w
-    → FirstSync v w (IsGoodRun protocol (begun cat took.taken) (asked_of seed took.ended took.taken) v.said) → SessionsFrom seed cat status v w i j
+    → FirstSync v w (IsGoodMoment protocol (begun cat took.taken) (asked_of seed took.ended took.taken) v.said) → SessionsFrom seed cat status v w i j
 sessions_from seed cat status v w i j means took fair moments = ran_from protocol apart most_text IsTextEnd (asked_of seed) (begun cat) status v w i j took means fair moments
 
 -- as long as each image means the catalogue and nothing is said, all is good
-good_still : (cat : Catalogue) (count : List ℕ) (asked : List Turn) (v w : Device) → FirstSync v w (StillMeans cat v) → FirstSync v w (IsGoodRun protocol (begun cat count) asked v.said)
+good_still : (cat : Catalogue) (count : List ℕ) (asked : List Turn) (v w : Device) → FirstSync v w (StillMeans cat v) → FirstSync v w (IsGoodMoment protocol (begun cat count) asked v.said)
 good_still cat count asked v w still =
-    first_map v w (StillMeans cat v) (IsGoodRun protocol (begun cat count) asked v.said) (λ image said now. good_first protocol apart (begun cat count) asked v.said image said now.0 now.1) still
+    first_map v w (StillMeans cat v) (IsGoodMoment protocol (begun cat count) asked v.said) (λ image said now. good_first protocol apart (begun cat count) asked v.said image said now.0 now.1) still
 
 -- the volume was not opened
 pub unopened : (tells told : Bool) (seed : ℕ) (fault : SurveyFault) (v y : Device) (i : Input) → Started tells (Err fault) v y → SessionsRan tells told seed (status_of_opening fault) v y i i
@@ -124,13 +125,13 @@ module _ (tells told : Bool) (seed : ℕ) (engine : Engine) (v y w : Device) (i 
             let part = over.fair t cat (opens.at t cat means) in
             subst (λ (l : List Turn). SaysFairly protocol (begun cat text) l v w) (asked_all seed text few) (part.0, part.1 ∙ ap (λ (l : List ℕ). l ++ part.0) said_first, part.2)
 
-        moments_from : FirstSync v w (IsGoodRun protocol (begun cat text) (asked_of seed true text) v.said)
+        moments_from : FirstSync v w (IsGoodMoment protocol (begun cat text) (asked_of seed true text) v.said)
         moments_from =
-            let good : LeavesOnly y w (IsGoodRun protocol (begun cat text) (turns_of seed text) v.said) =
-            subst (λ (l : List ℕ). LeavesOnly y w (IsGoodRun protocol (begun cat text) (turns_of seed text) l)) said_first (over.moments t cat (opens.at t cat means))
+            let good : LeavesOnly y w (IsGoodMoment protocol (begun cat text) (turns_of seed text) v.said) =
+            subst (λ (l : List ℕ). LeavesOnly y w (IsGoodMoment protocol (begun cat text) (turns_of seed text) l)) said_first (over.moments t cat (opens.at t cat means))
             in
-            subst (λ (l : List Turn). FirstSync v w (IsGoodRun protocol (begun cat text) l v.said)) (asked_all seed text few)
-            (first_then v y w (IsGoodRun protocol (begun cat text) (turns_of seed text) v.said) (good_still cat text (turns_of seed text) v y (opens.moments t cat means)) (opens.synced t) good (over.syncs t))
+            subst (λ (l : List Turn). FirstSync v w (IsGoodMoment protocol (begun cat text) l v.said)) (asked_all seed text few)
+            (first_then v y w (IsGoodMoment protocol (begun cat text) (turns_of seed text) v.said) (good_still cat text (turns_of seed text) v y (opens.moments t cat means)) (opens.synced t) good (over.syncs t))
 
         done_from : status ≡ 0 → AllDone protocol (begun cat text) (turns_of seed text) v w
         done_from zero =

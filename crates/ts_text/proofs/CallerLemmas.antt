@@ -10,7 +10,7 @@ pub use Rattle.ts_text.proofs.FollowLemmas.{Alike, Carries, Follows, StartsBlank
 -- phrases: what they give and take, and where they are refused
 pub use Rattle.ts_text.proofs.PhraseLemmas.{Any, Goes, Shrinks, Yields, YieldsIn, chain, chain_in, given, given_in, in_bytes, shrinks_of, yields_same}
 pub use Rattle.ts_text.proofs.TokenLemmas.{Example, of_token}
-pub use Rattle.ts_text.proofs.SignLemmas.{behind_yields, brackets_yield, made_yields, pair_yields, sign_at, sign_end, sign_is, sign_left, sign_other, sign_shrinks, sign_yields, triple_yields}
+pub use Rattle.ts_text.proofs.SignLemmas.{behind_yields, brackets_yield, made_yields, sign_at, sign_end, sign_is, sign_left, sign_other, sign_shrinks, sign_yields}
 -- phrases that a sign decides, and phrases that go on behind signs
 pub use Rattle.ts_text.proofs.OnwardLemmas.{by_sign_none, by_sign_some, if_sign_shrinks, joined_shrinks, made_shrinks, one_more, onward_enough, onward_none, onward_some, sign_absent, sign_there}
 -- lists

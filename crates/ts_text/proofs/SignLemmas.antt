@@ -5,7 +5,7 @@ use Rattle.std.proofs.lemmas.Bool.Decides.{nat_tests}
 use Rattle.ts_text.specs.Blanks.{unblanked}
 use Rattle.ts_text.specs.Front.{Front}
 use Rattle.ts_text.proofs.FrontLemmas.{IsFront, IsSign}
-use Rattle.ts_text.specs.Phrase.{Phrase, ◌>>=◌, behind_byte, a_sign, behind, in_brackets, pair, triple, made, give, token, taken, taken_front}
+use Rattle.ts_text.specs.Phrase.{Phrase, ◌>>=◌, behind_byte, a_sign, behind, in_brackets, made, give, token, taken, taken_front}
 use Rattle.ts_text.specs.declared.token.TokenKind.{TokenKind}
 use Rattle.ts_text.specs.declared.token.TokenKind.TheVariants.{Sign}
 use Rattle.ts_text.proofs.SpellingLemmas.{unblanked-le}
@@ -118,24 +118,6 @@ pub brackets_yield : {A : Type 0} (front : Front) → IsFront front → (P : A �
 brackets_yield front laws P open_ close phrase one =
     chain front laws P P (behind 40 phrase) (λ found. a_sign 41 >>= (λ close. give found)) (behind_yields front laws P 40 open_ phrase one)
     (λ found holds. chain front laws Any P (a_sign 41) (λ close. give found) (sign_yields front laws 41 close) (λ end any. given front P found holds))
-
--- two phrases with a comma between
-pub pair_yields : {A B : Type 0} (front : Front) → IsFront front → (P : A → Type 0) (Q : B → Type 0) → IsSign front 44 → (first : Phrase A) (second : Phrase B) → Yields front P first → Yields front Q second → Yields front (λ (p : A × B). P p.0 × Q p.1) (pair first second)
-pair_yields {A} {B} front laws P Q comma first second one two =
-    chain front laws P Both first (λ a. behind 44 second >>= (λ b. give (a, b))) one
-    (λ a holds. chain front laws Q Both (behind 44 second) (λ b. give (a, b)) (behind_yields front laws Q 44 comma second two) (λ b holds_too. given front Both (a, b) (holds, holds_too))) where
-      Both : A × B → Type 0
-      Both p = P p.0 × Q p.1
-
--- three
-pub triple_yields : {A B C : Type 0} (front : Front) → IsFront front → (P : A → Type 0) (Q : B → Type 0) (R : C → Type 0) → IsSign front 44 → (first : Phrase A) (second : Phrase B) (third : Phrase C) → Yields front P first → Yields front Q second → Yields front R third →
-    Yields front (λ (p : A × B × C). P p.0 × Q p.1 × R p.2) (triple first second third)
-triple_yields {A} {B} {C} front laws P Q R comma first second third one two three =
-    chain front laws P All first (λ a. behind 44 second >>= (λ b. behind 44 third >>= (λ c. give (a, b, c)))) one
-    (λ a holds. chain front laws Q All (behind 44 second) (λ b. behind 44 third >>= (λ c. give (a, b, c))) (behind_yields front laws Q 44 comma second two)
-    (λ b holds_too. chain front laws R All (behind 44 third) (λ c. give (a, b, c)) (behind_yields front laws R 44 comma third three) (λ c last. given front All (a, b, c) (holds, holds_too, last)))) where
-      All : A × B × C → Type 0
-      All p = P p.0 × Q p.1 × R p.2
 
 -- what a phrase gives, as something else
 pub made_yields : {A B : Type 0} (front : Front) → IsFront front → (P : A → Type 0) (Q : B → Type 0) (phrase : Phrase A) (make : A → B) → Yields front P phrase → ((a : A) → P a → Q (make a)) → Yields front Q (made phrase make)

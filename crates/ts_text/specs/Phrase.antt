@@ -76,21 +76,6 @@ in_brackets phrase = do
   close ← a_sign 41
   give found
 
--- two phrases with a comma between
-abbrev pub pair : {A B : Type 0} → Phrase A → Phrase B → Phrase (A × B)
-pair first second = do
-  a ← first
-  b ← behind 44 second
-  give (a, b)
-
--- three
-abbrev pub triple : {A B C : Type 0} → Phrase A → Phrase B → Phrase C → Phrase (A × B × C)
-triple first second third = do
-  a ← first
-  b ← behind 44 second
-  c ← behind 44 third
-  give (a, b, c)
-
 -- what a phrase gives, as something else
 abbrev pub made : {A B : Type 0} → Phrase A → (A → B) → Phrase B
 made phrase make = do
