@@ -60,8 +60,8 @@ fn last_offset(grid: &Grid<'_>, elems: &[Elem]) -> u64
     }
 }
 
-// The on start so many behind a stamp, where it lies from the origin on, up to a last offset.
-fn start_behind(grid: &Grid<'_>, by: i64, last: u64, stamp: Stamp) -> Option<Stamp>
+/// The on start so many behind a stamp, where it lies from the origin on, up to a last offset.
+pub fn start_behind(grid: &Grid<'_>, by: i64, last: u64, stamp: Stamp) -> Option<Stamp>
     ensures { result ≡ start_behind grid.now by last stamp }
 {
     let offset = offset_behind(grid.offset_from(stamp), by, last)?;

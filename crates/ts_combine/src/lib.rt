@@ -12,7 +12,7 @@ mod rows;
 mod side;
 mod sweep;
 
-pub use behind::lag;
+pub use behind::{lag, start_behind};
 pub use combine::{intersect, union};
 pub use joined::{Joined, Lagged};
 pub use needed::{elements_outside_play_no_part, first_needed};

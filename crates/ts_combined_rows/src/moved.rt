@@ -11,7 +11,7 @@ ghost use Rattle.ts_entry.specs.Entry.{AreSeenBytes, filled};
 ghost use Rattle.ts_entry.specs.Handed.{AreHanded};
 ghost use Rattle.ts_clip.specs.Series.{ArePlaces, IsLaidOut, IsTold};
 ghost use Rattle.ts_combine.specs.Lag.{lagged};
-ghost use Rattle.ts_combine.specs.Moved.{last_offset, offset_behind, start_behind};
+ghost use Rattle.ts_combine.specs.Moved.{last_offset, start_behind};
 ghost use Rattle.ts_model.specs.Definitions.{series_slots};
 ghost use Rattle.ts_combined_rows.specs.Moves.{IsMovedOn, mover};
 
@@ -20,6 +20,7 @@ use crate::rows::MOST_ROWS;
 use std::alloc::AllocError;
 use ts_base::{Refusal, Stamp, StoreFault};
 use ts_clip::{elements, last_elem};
+use ts_combine::start_behind;
 use ts_entry::EntryVisitor;
 use ts_offset::{Grid, Shape};
 use ts_page::{Page, Pages};
@@ -205,23 +206,4 @@ fn moved_up_to<P: Pages, V: EntryVisitor>(
         return Ok(Err(Refusal::TooLarge { rows: count }));
     }
     Ok(Ok(count))
-}
-
-// The on start so many behind a stamp, where it lies from the origin on, up to a last offset.
-fn start_behind(grid: &Grid<'_>, by: i64, last: u64, stamp: Stamp) -> Option<Stamp>
-    ensures { result ≡ start_behind grid.now by last stamp }
-{
-    let offset = offset_behind(grid.offset_from(stamp), by, last)?;
-    grid.stamp_of(offset)
-}
-
-// The offset so many behind another.
-fn offset_behind(offset: u64, by: i64, last: u64) -> Option<u64>
-    ensures { result ≡ offset_behind by last offset }
-{
-    let behind = i128::from(offset) + i128::from(by);
-    if behind < 0 || behind > i128::from(last) {
-        return None;
-    }
-    Some(behind as u64)
 }
