@@ -1,5 +1,5 @@
 // Which groups are asked for.
-ghost use Rattle.std.specs.Prelude.{◌≡◌, ℤ, ◌<ℤ◌, [], None, pos};
+ghost use Rattle.std.specs.Prelude.{◌≡◌, ℤ, ◌<ℤ◌, [], None};
 ghost use Rattle.ts_base.specs.Moment.{IsStamp};
 ghost use Rattle.ts_calendar.specs.Intervals.{IsBefore};
 ghost use Rattle.ts_offset.specs.Grid.{held_start};
@@ -9,9 +9,6 @@ use crate::span::Span;
 use std::marker::Model;
 use ts_base::Stamp;
 use ts_offset::Counter;
-
-/// The number of the greatest stamp.
-const GREATEST: i64 = 25_340_230_079_999_999;
 
 /// Groups of elements by the on intervals of a calendar: those that start from one stamp to another, both included.
 #[derive(Drop)]
@@ -99,15 +96,6 @@ fn last_before(end: Option<Stamp>) -> Stamp
 {
     match end {
         Some(end) => Stamp::of(end.units() - 1).unwrap_or(end),
-        None => greatest_stamp(),
+        None => Stamp::greatest(),
     }
-}
-
-fn greatest_stamp() -> Stamp
-    ensures { result ≡ pos 25_340_230_079_999_999 }
-{
-    let Some(stamp) = Stamp::of(GREATEST) else {
-        unreachable!()
-    };
-    stamp
 }

@@ -1,5 +1,5 @@
 ghost use Rattle.std.specs.Prelude.{◌≡◌, ◌+◌, ◌-◌, ◌*◌, ◌/◌, ◌%◌, ◌^◌, ◌<◌, ◌≤◌, ◌↔◌, pos, ◌+ℤ◌, ◌*ℤ◌, ◌<ℤ◌, length};
-ghost use Rattle.std.specs.Prelude.{drop, IsTrue, IsSome, IfSome, Some, negsuc};
+ghost use Rattle.std.specs.Prelude.{drop, IsTrue, IsSome, IfSome, Some, negsuc, neg_ℤ};
 ghost use Rattle.ts_base.specs.Moment.{IsStamp, stamp_if_any, Moment, stamp_at, day_of, clock_of, civil_of};
 ghost use Rattle.ts_base.specs.StampText.{read_stamp, stamp_text, all_digits, number_of, has_stamp_form};
 ghost use Rattle.ts_base.specs.StampText.{has_stamp_length, has_stamp_signs, has_stamp_digits, digit, text_of};
@@ -10,10 +10,10 @@ use crate::text::{fraction, fraction_text, has_form, number, write_parts};
 use jiff_core::civil::Date;
 use std::marker::Model;
 
-/// The least stamp, 0001-01-01 00:00:00.00000.
+/// The number of the least stamp.
 const LEAST: i64 = -6_213_559_680_000_000;
 
-/// The greatest stamp, 9999-12-31 23:59:59.99999.
+/// The number of the greatest stamp.
 const GREATEST: i64 = 25_340_230_079_999_999;
 
 /// The units of a day.
@@ -39,6 +39,20 @@ impl Model for Stamp {
 }
 
 impl Stamp {
+    /// The least stamp, 0001-01-01 00:00:00.00000.
+    pub fn least() -> Stamp
+        ensures { result ≡ neg_ℤ (pos 6_213_559_680_000_000) }
+    {
+        Stamp { units: LEAST }
+    }
+
+    /// The greatest stamp, 9999-12-31 23:59:59.99999.
+    pub fn greatest() -> Stamp
+        ensures { result ≡ pos 25_340_230_079_999_999 }
+    {
+        Stamp { units: GREATEST }
+    }
+
     /// The stamp of this number of units, if it lies in the range.
     pub fn of(units: i64) -> Option<Stamp>
         ensures { result ≡ stamp_if_any units }

@@ -9,7 +9,7 @@ ghost use Rattle.ts_entry.specs.Reading.{reading, clipped, counted, entry_number
 ghost use Rattle.ts_clip.specs.Call.{IsRead, IsShown, AreElementsTaken};
 ghost use Rattle.ts_clip.specs.Chain.{HoldsOfChain};
 
-use crate::bounds::{MOST_ROWS, greatest_stamp, least_stamp};
+use crate::bounds::MOST_ROWS;
 use crate::chain_cells::Wanted;
 use crate::chain_pages::{count_pages, visit_pages};
 use crate::chain_range::places_between;
@@ -100,7 +100,7 @@ pub(crate) fn chain_clip_count<P: Pages, V: EntryVisitor>(
     if n < 0 {
         visit_last(pages, page, space, shelf, stamp, most, visitor)
     } else {
-        let end = greatest_stamp();
+        let end = Stamp::greatest();
         visit_range(pages, page, space, shelf, stamp, end, most, visitor)
     }
 }
@@ -129,8 +129,8 @@ pub(crate) fn chain_nth<P: Pages, V: EntryVisitor>(
     let places = space.places(shelf.series);
     let (index, skip) = page_of_number(places, n, shown);
     let want = Wanted { skip, most: 1 };
-    let from = least_stamp();
-    let to = greatest_stamp();
+    let from = Stamp::least();
+    let to = Stamp::greatest();
     let left = visit_pages(
         pages,
         page,

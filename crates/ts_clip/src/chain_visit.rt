@@ -9,7 +9,7 @@ ghost use Rattle.ts_entry.specs.Entry.{AreTaken, filled};
 ghost use Rattle.ts_entry.specs.Reading.{last_ones, most_rows};
 ghost use Rattle.ts_clip.specs.Chain.{HoldsOfChain, first_moment};
 
-use crate::bounds::{MOST_ROWS, least_stamp};
+use crate::bounds::MOST_ROWS;
 use crate::chain_cells::Wanted;
 use crate::chain_pages::{count_back, count_pages, visit_pages};
 use crate::chain_range::{are_few, places_between};
@@ -71,7 +71,7 @@ pub(crate) fn visit_last<P: Pages, V: EntryVisitor>(
     ensures call { Reads P.tells result (P.contents pages.old) (P.contents pages.new) }
     ensures undisturbed { P.undisturbed pages.old pages.new }
 {
-    let from = least_stamp();
+    let from = Stamp::least();
     let places = space.places(shelf.series);
     let (first, stop) = places_between(places, from, to);
     let among = &places[first..stop];

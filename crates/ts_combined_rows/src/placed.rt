@@ -5,7 +5,6 @@ ghost use Rattle.ts_combine.specs.Moved.{start_behind};
 ghost use Rattle.ts_combine.specs.Series.{IsStartOf};
 ghost use Rattle.ts_combined_rows.specs.Placed.{HasNoPlace, NoneBefore, NoneAfter};
 
-use crate::sides::greatest_stamp;
 use ts_base::Stamp;
 use ts_offset::Grid;
 
@@ -28,11 +27,11 @@ pub(crate) fn last_placed(grid: &Grid<'_>, by: i64, last: u64) -> Option<Stamp>
     ensures none { IfNone result ((stamp : ℤ) → IsStartOf grid.now stamp → start_behind grid.now by last stamp ≡ None) }
 {
     if by <= 0 {
-        return Some(greatest_stamp());
+        return Some(Stamp::greatest());
     }
     let offset = last.checked_sub(by.unsigned_abs())?;
     match grid.stamp_of(offset) {
         Some(stamp) => Some(stamp),
-        None => Some(greatest_stamp()),
+        None => Some(Stamp::greatest()),
     }
 }

@@ -1,5 +1,5 @@
 // Series as they are combined: some of their elements, and on a grid its calendar.
-ghost use Rattle.std.specs.Prelude.{◌≡◌, ◌<◌, IfNone, IfOk, IfSome, Some, option_copied, option_map, pos};
+ghost use Rattle.std.specs.Prelude.{◌≡◌, ◌<◌, IfNone, IfOk, IfSome, Some, option_copied, option_map};
 ghost use Rattle.ts_row.specs.Element.{seen};
 ghost use Rattle.ts_space.specs.Directory.{places_of};
 ghost use Rattle.ts_irregular.specs.Call.{Reads};
@@ -25,9 +25,6 @@ use ts_page::{Page, Pages};
 use ts_row::Shelf;
 use ts_space::Space;
 
-/// The number of the greatest stamp.
-const GREATEST: i64 = 25_340_230_079_999_999;
-
 /// The elements from one stamp to another, both included, that aren't hidden. All pages stay; `page` is room to read
 /// one; the memory is for the elements.
 pub(crate) fn elements_in<P: Pages>(
@@ -52,16 +49,6 @@ pub(crate) fn elements_in<P: Pages>(
     let mut kept = KeptElements::new(alloc);
     elements(pages, page, space, shelf, shape, from, to, &mut kept)?;
     Ok(kept)
-}
-
-/// The greatest stamp.
-pub(crate) fn greatest_stamp() -> Stamp
-    ensures { result ≡ pos 25_340_230_079_999_999 }
-{
-    let Some(stamp) = Stamp::of(GREATEST) else {
-        unreachable!()
-    };
-    stamp
 }
 
 /// A series with these of its elements.

@@ -1,5 +1,5 @@
 // The statements of the elements of all series, said page by page.
-ghost use Rattle.std.specs.Prelude.{◌≡◌, ◌<◌, ◌∷◌, [], pos, negsuc, IsTrue, List, OnOk, Some};
+ghost use Rattle.std.specs.Prelude.{◌≡◌, ◌<◌, ◌∷◌, [], IsTrue, List, OnOk, Some};
 ghost use Rattle.std.specs.List.{flat_map};
 ghost use Rattle.ts_page.specs.Pages.{IsElementPage};
 ghost use Rattle.ts_journal.specs.Journal.{pages};
@@ -31,11 +31,6 @@ use ts_page::Page;
 use ts_row::Shelf;
 use ts_space::Place;
 use ts_store::Store;
-
-/// The least stamp's number of units, and the greatest one's.
-const LEAST: i64 = -6_213_559_680_000_000;
-
-const GREATEST: i64 = 25_340_230_079_999_999;
 
 /// Says the statements of the elements that were chosen.
 pub(crate) fn say_elements<S: Site>(
@@ -192,28 +187,10 @@ fn say_page<S: Site>(
         slice::from_ref(place),
         shelf,
         shape,
-        least_stamp(),
-        greatest_stamp(),
+        Stamp::least(),
+        Stamp::greatest(),
         texts,
     )?;
     site.say(texts.as_slice())?;
     Ok(())
-}
-
-fn least_stamp() -> Stamp
-    ensures { result ≡ negsuc 6_213_559_679_999_999 }
-{
-    let Some(stamp) = Stamp::of(LEAST) else {
-        unreachable!()
-    };
-    stamp
-}
-
-fn greatest_stamp() -> Stamp
-    ensures { result ≡ pos 25_340_230_079_999_999 }
-{
-    let Some(stamp) = Stamp::of(GREATEST) else {
-        unreachable!()
-    };
-    stamp
 }

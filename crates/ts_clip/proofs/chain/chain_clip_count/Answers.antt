@@ -38,5 +38,5 @@ returns-else-n-lt0-clause-read g c =
     (λ count taken told es have.
     let order = order_told slot columns (g.P.Pages.contents c.args.pages.now).page (places_of slot c.args.space.now) es have in
     subst (λ (l : List Entry). AreTaken took l count)
-    ((λ j. map filled (take (number j) (within_range c.args.stamp (c.greatest_stamp-end.ensures j) (seen es)))) ∙ sym (counted_first columns c.args.stamp c.args.n (seen es) more order.each)) (taken told es have))
+    ((λ j. map filled (take (number j) (within_range c.args.stamp (c.greatest-end.ensures j) (seen es)))) ∙ sym (counted_first columns c.args.stamp c.args.n (seen es) more order.each)) (taken told es have))
     c.visit_range.ensures.taken

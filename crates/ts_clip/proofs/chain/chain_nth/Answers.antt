@@ -30,8 +30,8 @@ returns-clause-read g c = λ told es have shown.
     subst (λ (ps : List Place). AreChained slot columns pages ps (drop index have.chain)) (sym (take_rest places index)) (chained_others slot columns pages index places have.chain on) in
     let each : AreElements columns back =
     elements_back columns (all_in (take index have.chain)) back (subst (AreElements columns) (sym (parts_in index have.chain)) (pages_in_order columns have.chain have.is.pages).each) in
-    let all : seen (within_range c.least_stamp-from.result c.greatest_stamp-to.result back) ≡ seen back =
-    ap seen ((λ j. within_range (c.least_stamp-from.ensures j) (c.greatest_stamp-to.ensures j) back) ∙ within_all columns back each) in
+    let all : seen (within_range c.least-from.result c.greatest-to.result back) ≡ seen back =
+    ap seen ((λ j. within_range (c.least-from.ensures j) (c.greatest-to.ensures j) back) ∙ within_all columns back each) in
     let front = shown_front c.args.shown index have.chain told_of.first (λ yes. ap has_hidden have.all ∙ shown yes) in
     let start = number_from slot columns pages places index skip c.args.n have.chain on told_of.number front in
     let took = λ (entries : List Entry). g.V.EntryVisitor.took columns c.args.visitor.now entries c.visit_pages.new.visitor in

@@ -23,9 +23,9 @@ returns-clause-taken g c = λ told es have.
     let stop : ℕ = c.places_between-first.result.1 in
     let among : List Place = take (stop - first) (drop first c.places-places.result.now) in
     let index : ℕ = c.in_ok-index.index in
-    let from : ℤ = c.least_stamp-from.result in
+    let from : ℤ = c.least-from.result in
     let took = λ (entries : List Entry). g.V.EntryVisitor.took columns c.args.visitor.now entries c.visit_pages.new.visitor in
-    subst (λ (z : ℤ). AreTaken took (map filled (last_ones c.args.most (within_range z c.args.to (seen es)))) (c.args.most - c.in_ok-left.left.most)) c.least_stamp-from.ensures
+    subst (λ (z : ℤ). AreTaken took (map filled (last_ones c.args.most (within_range z c.args.to (seen es)))) (c.args.most - c.in_ok-left.left.most)) c.least-from.ensures
     (range_told slot columns v (places_of slot c.args.space.now) c.places-places.result.now first stop from c.args.to es c.places-places.ensures.ok c.places_between-first.ensures.range have
     (λ (l : List Element). AreTaken took (map filled (last_ones c.args.most l)) (c.args.most - c.in_ok-left.left.most))
     (λ part on.

@@ -4,7 +4,7 @@ use Rattle.ts_combined_rows.proofs.PlacedLemmas.{none_latest, none_after}
 use Rattle.ts_combined_rows.proofs.placed.last_placed.Goals as goal
 
 pub returns-then-by-le0-clause-some : goal.returns-then-by-le0-clause-some
-returns-then-by-le0-clause-some c = none_latest c.args.grid.now c.requires c.args.by c.args.last c.greatest_stamp.result c.greatest_stamp.ensures
+returns-then-by-le0-clause-some c = none_latest c.args.grid.now c.requires c.args.by c.args.last c.greatest.result c.greatest.ensures
 
 pub returns-in-Some-clause-some : goal.returns-in-Some-clause-some
 returns-in-Some-clause-some c =
@@ -12,4 +12,4 @@ returns-in-Some-clause-some c =
     none_after c.args.grid.now c.requires c.args.by c.args.last c.in_ok-offset.offset c.in-Some.stamp (sym c.stamp_of.ensures.value ∙ c.in-Some.is) sum
 
 pub returns-in-None-clause-some : goal.returns-in-None-clause-some
-returns-in-None-clause-some c = none_latest c.args.grid.now c.requires c.args.by c.args.last c.greatest_stamp-in-None.result c.greatest_stamp-in-None.ensures
+returns-in-None-clause-some c = none_latest c.args.grid.now c.requires c.args.by c.args.last c.greatest-in-None.result c.greatest-in-None.ensures

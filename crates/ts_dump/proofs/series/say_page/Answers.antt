@@ -44,8 +44,8 @@ returns-in_err-say-clause-said g c = λ told es have.
     c.in_ok-committed.ensures.read told (inr (omega (arith, c.requires.element))) ∙ ap (λ (f : ℕ → List ℕ). f place.page) (c.requires.store.reads told) in
     let put = page_texts c.args.shape.now c.requires.laid c.args.shelf.now.series columns key (pages v.held) place page read
     c.from_ref-2.result.now c.from_ref-2.ensures.value c.from_ref.result.now c.from_ref.ensures.value before.grouping texts.key.now texts.text texts.grouping
-    taken.key.now taken.grouping taken.text c.as_slice.result.now c.least_stamp.result c.greatest_stamp.result
-    c.clear.ensures.none c.clear.ensures.key c.clear.ensures.grouping c.least_stamp.ensures c.greatest_stamp.ensures
+    taken.key.now taken.grouping taken.text c.as_slice.result.now c.least.result c.greatest.result
+    c.clear.ensures.none c.clear.ensures.key c.clear.ensures.grouping c.least.ensures c.greatest.ensures
     c.as_slice.ensures (λ fs are on. c.in_ok-rows_of_pages.ensures.took c.requires.laid (pages v.held) fs are on) es have in
     said_page before.grouping taken.grouping (texts_of_elements key columns es) c.from_residual-in_err-say.result Output v w c.from_residual-in_err-say.ensures.1 (taken.key.now ≡ key)
     (texts_cut tells before.grouping taken.grouping taken.grouping (texts_of_elements key columns es) c.as_slice.result.now c.in_err-say.field-0.0 v x w put
@@ -68,12 +68,12 @@ returns-clause-said g c = λ told es have.
     c.in_ok-committed.ensures.read told (inr (omega (arith, c.requires.element))) ∙ ap (λ (f : ℕ → List ℕ). f place.page) (c.requires.store.reads told) in
     let put = page_texts c.args.shape.now c.requires.laid c.args.shelf.now.series columns key (pages v.held) place page read
     c.from_ref-2.result.now c.from_ref-2.ensures.value c.from_ref.result.now c.from_ref.ensures.value before.grouping texts.key.now texts.text texts.grouping
-    taken.key.now taken.grouping taken.text c.as_slice.result.now c.least_stamp.result c.greatest_stamp.result
-    c.clear.ensures.none c.clear.ensures.key c.clear.ensures.grouping c.least_stamp.ensures c.greatest_stamp.ensures
+    taken.key.now taken.grouping taken.text c.as_slice.result.now c.least.result c.greatest.result
+    c.clear.ensures.none c.clear.ensures.key c.clear.ensures.grouping c.least.ensures c.greatest.ensures
     c.as_slice.ensures (λ fs are on. c.in_ok-rows_of_pages.ensures.took c.requires.laid (pages v.held) fs are on) es have in
     let same = page_key c.args.shape.now c.requires.laid c.args.shelf.now.series columns key (pages v.held) place page read
     c.from_ref-2.result.now c.from_ref-2.ensures.value c.from_ref.result.now c.from_ref.ensures.value before.grouping texts.key.now texts.text texts.grouping
-    taken.key.now taken.grouping taken.text c.as_slice.result.now c.least_stamp.result c.greatest_stamp.result
-    c.clear.ensures.none c.clear.ensures.key c.clear.ensures.grouping c.least_stamp.ensures c.greatest_stamp.ensures
+    taken.key.now taken.grouping taken.text c.as_slice.result.now c.least.result c.greatest.result
+    c.clear.ensures.none c.clear.ensures.key c.clear.ensures.grouping c.least.ensures c.greatest.ensures
     c.as_slice.ensures (λ fs are on. c.in_ok-rows_of_pages.ensures.took c.requires.laid (pages v.held) fs are on) es have in
     (texts_said tells told before.grouping taken.grouping (texts_of_elements key columns es) c.as_slice.result.now v x w put c.in_ok-committed.ensures.others.keeps.said c.in_ok-say.ensures, same)

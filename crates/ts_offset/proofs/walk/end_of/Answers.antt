@@ -12,5 +12,5 @@ returns-clause-end c =
     let e = c.interval_around.ensures in
     let laid : IsLaid plan = e.laid in
     let next : k +ℤ pos 1 ≡ to_z w64 (of_z w64 (to_z w64 (of_z w64 k) +ℤ pos 1)) = omega (arith, signed_casts, e.near) in
-    let first = first-next plan k c.last_stamp.result laid e.around (omega (arith, signed_casts, e.near), omega (arith, signed_casts, e.near)) in
-    subst (IsEnd plan) next (end-after plan (k +ℤ pos 1) laid (subst (λ t. IsFirstFrom plan (t +ℤ pos 1) (k +ℤ pos 1)) c.last_stamp.ensures first))
+    let first = first-next plan k c.greatest.result laid e.around (omega (arith, signed_casts, e.near), omega (arith, signed_casts, e.near)) in
+    subst (IsEnd plan) next (end-after plan (k +ℤ pos 1) laid (subst (λ t. IsFirstFrom plan (t +ℤ pos 1) (k +ℤ pos 1)) c.greatest.ensures first))
