@@ -1,6 +1,6 @@
 -- The first sync of a run.
 use Rattle.std.proofs.Common.{◌≡◌, inl, inr, ⊎_elim, ℕ, ◌+◌, ◌≤◌, ◌<◌, Bool, IsTrue, List, Result, Ok, Err, refl, sym, ◌∙◌, subst, arith}
-use Rattle.ts_disk.specs.Device.{Device, Lawful, Only, Synced, FirstSync, LeavesOnly}
+use Rattle.ts_disk.specs.Device.{Device, Lawful, Only, Synced, FirstSync, LeavesOnly, LeavesAsItWas}
 use Rattle.ts_disk.proofs.Moments.{started, calls_on, then_on, leaves_map}
 use Rattle.ts_journal.specs.Moment.{Keeps, OnlyReads}
 use Rattle.ts_store.proofs.CallerLemmas.{keeps_then}
@@ -11,7 +11,7 @@ use Rattle.ts_engine.specs.declared.engine.Engine.{Engine}
 use Rattle.ts_volume.specs.Volume.{MeansCatalogue, MeansNothing}
 use Rattle.ts_volume.specs.FirstBad.{IsFirstBadOf}
 use Rattle.ts_engine.proofs.OpenLemmas.{rose_on}
-use Rattle.ts_engine.specs.Start.{StillMeans, StartFault, LeavesAsItWas, Opened, Started}
+use Rattle.ts_engine.specs.Start.{StillMeans, StartFault, Opened, Started}
 
 -- the first sync, where it answered Ok
 sync_begins : {E : Type 0} (tells : Bool) (told : IsTrue tells) (v x : Device) (P : List ℕ → List ℕ → Type 0) → Lawful tells v → Lawful tells x → Synced {E = E} tells (Ok tt) v x → P v.held v.said → FirstSync v x P

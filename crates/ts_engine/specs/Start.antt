@@ -1,6 +1,6 @@
 -- What the opening of a volume does.
 use Rattle.std.specs.Prelude.{◌≡◌, ◌<◌, Bool, IsTrue, None, Result, IfOk, OnOk, IfErr, List, ℕ}
-use Rattle.ts_disk.specs.Device.{Device, Rose, FirstSync, LeavesOnly, Within}
+use Rattle.ts_disk.specs.Device.{Device, Rose, FirstSync, LeavesOnly, Within, LeavesAsItWas}
 use Rattle.ts_journal.specs.Moment.{Keeps, OnlyReads}
 use Rattle.ts_recover.specs.declared.replay.RecoverFault.{RecoverFault}
 use Rattle.ts_recover.specs.declared.replay.RecoverFault.TheVariants as journal
@@ -36,11 +36,6 @@ abbrev pub read_as : RecoverFault → SurveyFault
 read_as journal.Failed = Failed
 read_as (journal.NotAStore page) = NotAStore page
 read_as (journal.Memory error) = Memory error
-
--- nothing was written: the bytes stay, and each moment has an image of the entry and nothing said
-pub record LeavesAsItWas (v w : Device) : Type 0 where
-  pub held : w.held ≡ v.held
-  pub moments : LeavesOnly v w (λ image said. v.images image × (said ≡ v.said))
 
 -- a volume of which nothing is pending is opened, or not
 pub record Opened (tells : Bool) (result : Result Engine SurveyFault) (v w : Device) : Type 0 where

@@ -1,22 +1,15 @@
 -- The elements of a series in the order of their stamps, and what an edit at one stamp makes of them.
-use Rattle.std.specs.Prelude.{ℕ, suc, ◌-◌, slice_get, ℤ, int_lt, not, if◌then◌else◌, Option, Some, None, is_some}
-use Rattle.std.specs.Prelude.{Result, Ok, Err, List, [], ◌∷◌, filter, length}
+use Rattle.std.specs.Prelude.{ℕ, suc, ℤ, int_lt, not, if◌then◌else◌, Option, Some, None, is_some}
+use Rattle.std.specs.Prelude.{Result, Ok, Err, List, [], ◌∷◌, filter}
 use Rattle.std.specs.Ordering.{int_cmp, int_eq}
-use Rattle.std.specs.FinMap.{find, put}
+use Rattle.std.specs.FinMap.{put}
 use Rattle.ts_row.specs.Row.{Row}
 use Rattle.ts_row.specs.Element.{Element, seen}
-
--- the row of the element at a stamp, if one is there
-abbrev pub element_at : ℤ → List Element → Option Row
-element_at stamp es = find int_cmp stamp es
+pub use Rattle.ts_row.specs.Element.{element_at, last_of}
 
 -- the row of an element that isn't hidden
 abbrev pub row_if_seen : Row → Option Row
 row_if_seen row = if row.hidden then None else Some row
-
--- the last element, if there is one
-abbrev pub last_of : List Element → Option Element
-last_of es = slice_get es (length es - 1)
 
 -- the last element that isn't hidden, if there is one
 abbrev pub last_seen : List Element → Option Element

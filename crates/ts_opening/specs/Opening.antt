@@ -1,10 +1,9 @@
 -- How the opening of a volume shows in a status.
 use Rattle.std.specs.Prelude.{◌≡◌, ◌≢◌, ◌⊎◌, ℕ, ◌≤◌, Bool, IsTrue}
-use Rattle.ts_disk.specs.Device.{Device, Within, Rose}
+use Rattle.ts_disk.specs.Device.{Device, Within, Rose, LeavesAsItWas}
 use Rattle.ts_container.specs.declared.fault.SurveyFault.{SurveyFault}
 use Rattle.ts_container.specs.declared.fault.SurveyFault.TheVariants.{NotAStore, Failed, Memory}
 use Rattle.ts_volume.specs.Volume.{MeansNothing}
-use Rattle.ts_engine.specs.Start.{LeavesAsItWas}
 
 -- the status of a volume that is not opened
 abbrev pub status_of_opening : SurveyFault → ℕ

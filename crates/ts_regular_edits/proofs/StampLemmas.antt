@@ -13,6 +13,7 @@ use Rattle.ts_offset.specs.Grid.{GridPlan, stamp_of}
 use Rattle.ts_row.specs.Row.{Row}
 use Rattle.ts_row.specs.Element.{Element}
 use Rattle.ts_irregular.specs.Edit as stamps
+use Rattle.ts_row.specs.Element as elements
 use Rattle.ts_regular.specs.Offsets.{OffsetElement, element_at, with_element, without_element}
 use Rattle.ts_regular.proofs.OffsetLemmas.{lt_yes, lt_no, eq_yes, eq_no}
 use Rattle.ts_sheets.specs.Stamped.{stamped, HaveStarts}
@@ -61,14 +62,14 @@ pub stamped_cons : (g : GridPlan) (n : ℕ) (row : Row) (s : ℤ) (es : List Off
 stamped_cons g n row s es is = ap (λ (o : Option ℤ). cons_option (option_map (λ start. (start, row)) o) (stamped g es)) is
 
 module _ (g : GridPlan) (laid : IsLaid g.calendar) (n : ℕ) (s : ℤ) (is : stamp_of g n ≡ Some s) where
-  pub found_stamped : (es : List OffsetElement) → HaveStarts g es → stamps.element_at s (stamped g es) ≡ element_at n es
+  pub found_stamped : (es : List OffsetElement) → HaveStarts g es → elements.element_at s (stamped g es) ≡ element_at n es
   found_stamped [] starts = refl
   found_stamped (e ∷ es) starts =
       let t = some_start (stamp_of g e.0) (All-head (λ e. IsSome (stamp_of g e.0)) e es starts) in
       let rest = found_stamped es (All-tail (λ e. IsSome (stamp_of g e.0)) e es starts) in
       let same = cmp_agree g laid n e.0 s t.0 is t.1 in
-      ap (stamps.element_at s) (stamped_cons g e.0 e.1 t.0 es t.1)
-      ∙ ap (λ (o : Ordering). cond (is_eq o) (Some e.1) (stamps.element_at s (stamped g es))) (sym same)
+      ap (elements.element_at s) (stamped_cons g e.0 e.1 t.0 es t.1)
+      ∙ ap (λ (o : Ordering). cond (is_eq o) (Some e.1) (elements.element_at s (stamped g es))) (sym same)
       ∙ ap (λ (o : Option Row). cond (is_eq (nat_cmp n e.0)) (Some e.1) o) rest
 
   by_each : (r : Ordering) (row : Row) (e : OffsetElement) (t : ℤ) (es : List OffsetElement) → stamp_of g e.0 ≡ Some t → stamped g (with_element n row es) ≡ stamps.with_element s row (stamped g es)

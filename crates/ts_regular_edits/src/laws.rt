@@ -7,6 +7,7 @@ ghost use Rattle.ts_offset.specs.Grid.{GridPlan, stamp_of};
 ghost use Rattle.ts_row.specs.declared.kind.Column.{Column as TheColumn};
 ghost use Rattle.ts_row.specs.Row.{Row as TheRow};
 ghost use Rattle.ts_irregular.specs.Edit as stamps;
+ghost use Rattle.ts_row.specs.Element as elements;
 ghost use Rattle.ts_regular.specs.Offsets.{OffsetElement, element_at, with_element, without_element};
 ghost use Rattle.ts_regular.specs.Places.{OffsetPage, AreOn, all_in};
 ghost use Rattle.ts_regular.specs.Range.{within, outside};
@@ -22,7 +23,7 @@ pub fn edits_at_offsets_are_edits_at_stamps()
         → stamp_of grid n ≡ Some t → s <ℤ t }
     ensures found { (grid : GridPlan) → IsLaid grid.calendar → (n : ℕ) (s : ℤ) (es : List OffsetElement)
         → HaveStarts grid es → stamp_of grid n ≡ Some s →
-        stamps.element_at s (stamped grid es) ≡ element_at n es }
+        elements.element_at s (stamped grid es) ≡ element_at n es }
     ensures put { (grid : GridPlan) → IsLaid grid.calendar → (n : ℕ) (s : ℤ) (row : TheRow) (es : List OffsetElement)
         → HaveStarts grid es → stamp_of grid n ≡ Some s →
         stamped grid (with_element n row es) ≡ stamps.with_element s row (stamped grid es) }
