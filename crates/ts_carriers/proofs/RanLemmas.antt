@@ -8,7 +8,8 @@ use Rattle.ts_replies.proofs.Steps.{none_good, answered_then, moment_more, momen
 use Rattle.ts_replies.proofs.Hearing.{fair_more, fair_then}
 use Rattle.ts_carriers.specs.declared.fault.RunFault.{RunFault}
 use Rattle.ts_carriers.specs.declared.fault.RunFault.TheVariants.{Disk, Output}
-use Rattle.ts_carriers.specs.Run.{Carrier, SaysFairly, Answered, Ran}
+use Rattle.ts_carriers.specs.Run.{Carrier, Answered, Ran}
+use Rattle.ts_replies.specs.Said.{SaysFairly}
 use Rattle.ts_replies.specs.Good.{IsGoodMoment}
 use Rattle.ts_carriers.proofs.SayingLemmas.{IsSteady, rose_on}
 

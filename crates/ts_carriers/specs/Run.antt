@@ -1,15 +1,12 @@
 -- A run of items over what carries them out: what is said, and what a stop within it leaves.
 use Rattle.std.specs.Prelude.{◌≡◌, ◌≤◌, ℕ, Bool, IsTrue, List, ◌++◌, Result, Ok, Err}
 use Rattle.std.specs.Prelude.{OnOk, OnErr, IsOk, IsErr, IsErrOf}
-use Rattle.ts_disk.specs.Device.{Device, Elapses, LeavesOnly, Only, Rose, Within}
-use Rattle.ts_replies.specs.Acknowledged.{Protocol, IsFair, IsFront, AllAnswered}
+use Rattle.ts_disk.specs.Device.{Device, Elapses, LeavesOnly, Rose, Within}
+use Rattle.ts_replies.specs.Acknowledged.{Protocol, IsFront, AllAnswered}
 use Rattle.ts_replies.specs.Good.{IsGoodMoment}
+use Rattle.ts_replies.specs.Said.{SaysFairly}
 use Rattle.ts_carriers.specs.declared.fault.RunFault.{RunFault}
 use Rattle.ts_carriers.specs.declared.fault.RunFault.TheVariants.{Disk, Output}
-
--- what was said is replies to the items in their order, the last of them perhaps in part
-abbrev pub SaysFairly : {C I : Type 0} → Protocol C I → C → List I → Device → Device → Type 0
-SaysFairly p cat asked v w = (gained : List ℕ) × (w.said ≡ v.said ++ gained) × IsFair p cat asked gained
 
 -- What carries items out: whether its device tells what it holds, when it can go on, and when it stands at a state. A
 -- run is said in these words, whatever its items and its states are.
@@ -64,15 +61,6 @@ pub record Ran {E C I T : Type 0} (c : Carrier E C) (p : Protocol C I)
   pub faults : v.faults ≤ w.faults
   pub say_faults : v.say_faults ≤ w.say_faults
   pub syncs : IsTrue c.tells → v.syncs ≤ w.syncs
-
--- every item has its whole reply, and the volume, with nothing pending, means what is committed after them
-pub record AllDone {C I : Type 0} (p : Protocol C I) (cat : C) (asked : List I) (v w : Device) : Type 0 where
-  pub gained : List ℕ
-  pub last : C
-  pub said : w.said ≡ v.said ++ gained
-  pub answered : AllAnswered p cat asked gained last
-  pub means : p.means w.held last
-  pub only : Only w.held w.images
 
 -- the status of what ended a run
 abbrev pub status_of : RunFault → ℕ

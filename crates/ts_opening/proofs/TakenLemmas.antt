@@ -5,7 +5,7 @@ use Rattle.ts_disk.specs.Device.{Device, FirstSync}
 use Rattle.ts_disk.specs.Input.{Input}
 use Rattle.ts_replies.specs.Acknowledged.{Protocol, TellsApart}
 use Rattle.ts_replies.proofs.Steps.{none_good}
-use Rattle.ts_carriers.specs.Run.{SaysFairly}
+use Rattle.ts_replies.specs.Said.{SaysFairly}
 use Rattle.ts_replies.specs.Good.{IsGoodMoment}
 use Rattle.ts_opening.specs.Taken.{Took, RanFrom}
 

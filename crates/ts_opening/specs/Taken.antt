@@ -3,7 +3,7 @@ use Rattle.std.specs.Prelude.{◌≡◌, ℕ, ◌<◌, ◌≤◌, Bool, IsTrue, 
 use Rattle.ts_disk.specs.Device.{Device, FirstSync, Only}
 use Rattle.ts_disk.specs.Input.{Input}
 use Rattle.ts_replies.specs.Acknowledged.{Protocol}
-use Rattle.ts_carriers.specs.Run.{SaysFairly}
+use Rattle.ts_replies.specs.Said.{SaysFairly}
 use Rattle.ts_replies.specs.Good.{IsGoodMoment}
 
 -- The bytes that were taken from a source, and whether it answered its end: then nothing is left, the limit was kept,

@@ -15,7 +15,7 @@ use Rattle.ts_script_runs.specs.Run.{script}
 use Rattle.ts_opening.specs.Opening.{status_of_opening, OpensStore}
 use Rattle.ts_script_runs.specs.Script.{most_script, IsScriptEnd, asked_of, OpenedRan, ScriptFrom, ScriptRan}
 use Rattle.ts_carriers.proofs.CallerLemmas.{never, rose_on}
-use Rattle.ts_carriers.specs.Run.{SaysFairly, AllDone}
+use Rattle.ts_replies.specs.Said.{SaysFairly, AllDone}
 use Rattle.ts_replies.specs.Good.{IsGoodMoment}
 use Rattle.ts_opening.specs.Taken.{Took, TookEnough, TookTooMuch}
 use Rattle.ts_opening.proofs.CallerLemmas.{first_then, first_now, good_first, ran_from, silent, unopened_now, unopened_store, unopened_status, unopened_unwritten, is_unopened, opened_store}

@@ -10,7 +10,8 @@ use Rattle.ts_carriers.specs.declared.fault.RunFault.{RunFault}
 use Rattle.ts_carriers.specs.declared.fault.RunFault.TheVariants.{Disk, Output}
 use Rattle.ts_script_runs.specs.Run.{script, by_engine}
 use Rattle.ts_carriers.proofs.CallerLemmas.{never}
-use Rattle.ts_carriers.specs.Run.{SaysFairly, Answered, Ran, status_of, status_of_end, AllDone}
+use Rattle.ts_carriers.specs.Run.{Answered, Ran, status_of, status_of_end}
+use Rattle.ts_replies.specs.Said.{SaysFairly, AllDone}
 use Rattle.ts_replies.specs.Good.{IsGoodMoment}
 use Rattle.ts_opening.specs.Taken.{Took}
 use Rattle.ts_script_runs.specs.Script.{asked_in, asked_of, most_script, IsScriptEnd, RanOn, OpenedRan}

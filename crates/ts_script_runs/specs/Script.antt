@@ -9,7 +9,7 @@ use Rattle.ts_model.specs.Catalogue.{Catalogue}
 use Rattle.ts_answer.specs.State.{State, resting}
 use Rattle.ts_volume.specs.Volume.{MeansCatalogue}
 use Rattle.ts_opening.specs.Engine.{Kept, IsAt}
-use Rattle.ts_carriers.specs.Run.{SaysFairly, AllDone}
+use Rattle.ts_replies.specs.Said.{SaysFairly, AllDone}
 use Rattle.ts_replies.specs.Good.{IsGoodMoment}
 use Rattle.ts_opening.specs.Opening.{OpensStore}
 use Rattle.ts_opening.specs.Taken.{Took, TookTooMuch, TookEnough, RanFrom}

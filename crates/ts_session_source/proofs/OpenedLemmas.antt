@@ -12,7 +12,7 @@ use Rattle.ts_container.specs.declared.fault.SurveyFault.{SurveyFault}
 use Rattle.ts_volume.specs.Volume.{MeansCatalogue}
 use Rattle.ts_opening.specs.Engine.{Engine}
 use Rattle.ts_opening.specs.Engine.{Started, StillMeans}
-use Rattle.ts_carriers.specs.Run.{SaysFairly, AllDone}
+use Rattle.ts_replies.specs.Said.{SaysFairly, AllDone}
 use Rattle.ts_replies.specs.Good.{IsGoodMoment}
 use Rattle.ts_carriers.proofs.CallerLemmas.{rose_on}
 use Rattle.ts_opening.specs.Opening.{status_of_opening}

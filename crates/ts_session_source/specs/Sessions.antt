@@ -13,7 +13,7 @@ use Rattle.ts_sessions.specs.Steps.{Turn}
 use Rattle.ts_sessions.specs.Turns.{requests_of, turns}
 use Rattle.ts_volume.specs.Volume.{MeansCatalogue}
 use Rattle.ts_opening.specs.Engine.{StillMeans}
-use Rattle.ts_carriers.specs.Run.{AllDone}
+use Rattle.ts_replies.specs.Said.{AllDone}
 use Rattle.ts_opening.specs.Opening.{OpensStore}
 use Rattle.ts_opening.specs.Taken.{TookTooMuch, TookEnough, RanFrom}
 use Rattle.ts_session_runs.specs.Carrier.{sessions as protocol}
