@@ -1,5 +1,5 @@
 -- What a call answers.
-use Rattle.std.specs.Prelude.{◌≡◌, Result, Ok, Err}
+use Rattle.std.specs.Prelude.{◌≡◌, Result, Ok, Err, List, Vec}
 use Rattle.ts_base.specs.declared.refusal.Refusal.{Refusal}
 use Rattle.ts_base.specs.declared.fault.Trouble.{Trouble}
 use Rattle.ts_base.specs.declared.fault.Trouble.TheVariants.{Refused, Memory}
@@ -9,6 +9,12 @@ abbrev pub Answers : {A : Type 0} → Result A Refusal → Result A Trouble → 
 Answers answer (Ok value) = answer ≡ Ok value
 Answers answer (Err (Refused why)) = answer ≡ Err why
 Answers answer (Err (Memory error)) = Unit {0}
+
+-- a call answers these rows or this refusal, or that there is no memory
+abbrev pub AnswersList : {T A : Type 0} → Result (List T) Refusal → Result (Vec T A) Trouble → Type 0
+AnswersList answer (Ok rows) = answer ≡ Ok rows.items
+AnswersList answer (Err (Refused why)) = answer ≡ Err why
+AnswersList answer (Err (Memory error)) = Unit {0}
 
 -- the call fails for this, or for want of memory
 abbrev pub Fails : {A : Type 0} → Result A Refusal → Trouble → Type 0

@@ -16,7 +16,7 @@ use Rattle.ts_offset.specs.Grid.{GridPlan}
 use Rattle.ts_offset.specs.Counting.{starts_between}
 use Rattle.ts_pattern.specs.declared.junction.Junction.{Junction}
 use Rattle.ts_combine.specs.Combine.{Side, every_start, joined_on, joined_of, joined}
-use Rattle.ts_combine.specs.Rows.{AnswersList}
+use Rattle.ts_base.specs.Answer.{AnswersList}
 use Rattle.ts_combine.specs.Call.{AnswersRows, HaveNoGrid}
 use Rattle.ts_combine.specs.Reach.{IsOnCalendar, rows_held}
 

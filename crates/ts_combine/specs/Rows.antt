@@ -12,12 +12,6 @@ pub record Gathers {T : Type 0} (rows : Rows T) (all : List T) : Type 0 where
   pub number : rows.count ≡ length all
   pub few : length all ≤ most_rows → rows.kept.items ≡ all
 
--- a call answers these rows or this refusal, or that there is no memory
-abbrev pub AnswersList : {T A : Type 0} → Result (List T) Refusal → Result (Vec T A) Trouble → Type 0
-AnswersList answer (Ok rows) = answer ≡ Ok rows.items
-AnswersList answer (Err (Refused why)) = answer ≡ Err why
-AnswersList answer (Err (Memory error)) = Unit {0}
-
 -- more rows than a reply may have
 abbrev pub IsTooLarge : Refusal → Type 0
 IsTooLarge why = (n : ℕ) × (why ≡ TooLarge n) × (most_rows < n)

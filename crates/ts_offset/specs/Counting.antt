@@ -1,11 +1,9 @@
 -- What is counted of the on starts of a calendar: CalIndex, CalStamp and CalRange of the Informix TimeSeries Data
 -- User's Guide.
 use Rattle.std.specs.Prelude.{◌≡◌, ℕ, ◌-◌, ◌&&◌, not, nat_lt, if◌then◌else◌, int_lt, ℤ, pos, neg_ℤ, Option, List}
-use Rattle.std.specs.Prelude.{length, filter, slice_get, Result, Ok, Err, Vec}
+use Rattle.std.specs.Prelude.{length, filter, slice_get, Result, Ok, Err}
 use Rattle.ts_base.specs.declared.refusal.Refusal.{Refusal}
 use Rattle.ts_base.specs.declared.refusal.Refusal.TheVariants.{TooLarge}
-use Rattle.ts_base.specs.declared.fault.Trouble.{Trouble}
-use Rattle.ts_base.specs.declared.fault.Trouble.TheVariants.{Refused, Memory}
 use Rattle.ts_calendar.specs.Plan.{CalendarPlan}
 use Rattle.ts_offset.specs.Walk.{on_starts}
 
@@ -37,9 +35,3 @@ listed starts = if nat_lt 1_000_000 (length starts) then Err (TooLarge (length s
 -- the on starts from b to e, or how many they are
 abbrev pub cal_range : CalendarPlan → ℤ → ℤ → Result (List ℤ) Refusal
 cal_range c b e = listed (starts_between c b e)
-
--- a call answers this list or refusal, or that there is no memory
-abbrev pub AnswersList : {A : Type 0} → Result (List ℤ) Refusal → Result (Vec ℤ A) Trouble → Type 0
-AnswersList answer (Ok listed) = answer ≡ Ok listed.items
-AnswersList answer (Err (Refused why)) = answer ≡ Err why
-AnswersList answer (Err (Memory error)) = Unit {0}
