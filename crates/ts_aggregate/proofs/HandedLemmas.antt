@@ -15,7 +15,7 @@ use Rattle.ts_offset.specs.Walk.{on_starts}
 use Rattle.ts_offset.specs.Grid.{held_start}
 use Rattle.ts_offset.specs.Counting.{starts_between}
 use Rattle.ts_entry.specs.Intervals.{Group, grouped, held_from, by_interval}
-use Rattle.ts_entry.specs.Reading.{most_rows, within_rows}
+use Rattle.ts_base.specs.Answer.{most_rows, within_rows}
 use Rattle.ts_expr.specs.Binding.{Binding}
 use Rattle.ts_expr.specs.declared.item.BoundItem.{BoundItem}
 use Rattle.ts_expr.specs.Fold.{folded_row}

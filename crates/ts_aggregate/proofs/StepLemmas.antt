@@ -18,7 +18,7 @@ use Rattle.ts_sheets.proofs.OrderLemmas.{earlier_both, earlier_than, earlier_bac
 use Rattle.ts_offset.specs.Grid.{held_start}
 use Rattle.ts_offset.proofs.OwnLemmas.{from-held}
 use Rattle.ts_entry.specs.Intervals.{Group}
-use Rattle.ts_entry.specs.Reading.{most_rows}
+use Rattle.ts_base.specs.Answer.{most_rows}
 use Rattle.ts_expr.specs.Binding.{Binding}
 use Rattle.ts_expr.specs.Fold.{folded_row, values_of, value_at, is_null}
 use Rattle.ts_expr.specs.Running.{after, tally_of}

@@ -14,7 +14,7 @@ use Rattle.ts_sheets.specs.Chain.{AreEarlier, AreLater}
 use Rattle.ts_offset.specs.Walk.{IsOnStart}
 use Rattle.ts_offset.specs.Grid.{held_start}
 use Rattle.ts_entry.specs.Intervals.{Group, grouped, held_from}
-use Rattle.ts_entry.specs.Reading.{most_rows}
+use Rattle.ts_base.specs.Answer.{most_rows}
 use Rattle.ts_expr.specs.declared.item.BoundItem.{BoundItem}
 use Rattle.ts_expr.specs.Fold.{folded_row}
 use Rattle.ts_aggregate.specs.declared.span.Span.{Span}

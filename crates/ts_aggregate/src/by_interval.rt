@@ -7,7 +7,7 @@ ghost use Rattle.ts_row.specs.RowType.{width_of};
 ghost use Rattle.ts_calendar.specs.Intervals.{IsBefore};
 ghost use Rattle.ts_entry.specs.Stamps.{IsNear};
 ghost use Rattle.ts_entry.specs.Rows.{IsCellWith, AreCellsWith, AreStamped, elements_in, row_if_any, rows_in};
-ghost use Rattle.ts_entry.specs.Reading.{most_rows};
+ghost use Rattle.ts_base.specs.Answer.{most_rows};
 ghost use Rattle.ts_aggregate.specs.Column.{AreRowCells};
 ghost use Rattle.ts_aggregate.specs.Fold.{HasTaken};
 ghost use Rattle.ts_aggregate.specs.Groups.{AreGrouped, grouping, is_seen, IsClosed, IsReady, MayTake, Stands};

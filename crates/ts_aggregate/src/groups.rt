@@ -4,7 +4,7 @@ ghost use Rattle.ts_row.specs.Element.{seen};
 ghost use Rattle.ts_space.specs.Place.{count_of};
 ghost use Rattle.ts_space.specs.Directory.{places_of};
 ghost use Rattle.ts_irregular.specs.Call.{Reads};
-ghost use Rattle.ts_entry.specs.Reading.{within_rows};
+ghost use Rattle.ts_base.specs.Answer.{within_rows};
 ghost use Rattle.ts_entry.specs.Intervals.{by_interval};
 ghost use Rattle.ts_clip.specs.Series.{IsLaidOut, ArePlaces, IsTold};
 ghost use Rattle.ts_expr.specs.Fold.{folded_row};

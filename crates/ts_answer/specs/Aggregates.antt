@@ -4,7 +4,7 @@ use Rattle.std.specs.FinMap.{entries, get}
 use Rattle.ts_row.specs.declared.kind.Column.{Column}
 use Rattle.ts_row.specs.Row.{Row}
 use Rattle.ts_sheets.specs.Range.{within_range}
-use Rattle.ts_entry.specs.Reading.{within_rows}
+use Rattle.ts_base.specs.Answer.{within_rows}
 use Rattle.ts_entry.specs.Intervals.{by_interval}
 use Rattle.ts_expr.specs.Grammar.{read_list}
 use Rattle.ts_expr.specs.Binding.{Binding, binding}

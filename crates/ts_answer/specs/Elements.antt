@@ -14,7 +14,8 @@ use Rattle.ts_model.specs.Kinds.{with_named}
 use Rattle.ts_offset.specs.declared.shape.Shape.{Shape}
 use Rattle.ts_pattern.specs.declared.junction.Junction.{Junction}
 use Rattle.ts_entry.specs.Entry.{Entry}
-use Rattle.ts_entry.specs.Reading.{reading, clipped, counted, entry_number, within_rows}
+use Rattle.ts_entry.specs.Reading.{reading, clipped, counted, entry_number}
+use Rattle.ts_base.specs.Answer.{within_rows}
 use Rattle.ts_combine.specs.Combine.{Side, joined}
 use Rattle.ts_combine.specs.Lag.{lagged}
 use Rattle.ts_answer.specs.Reply.{count_line, stamp_line, elements_text, entries_text}

@@ -2,7 +2,7 @@
 -- expressions. Each tries its refusals in order.
 use Rattle.std.specs.Prelude.{ℕ, ℤ, List, [], ◌∷◌, Ok}
 use Rattle.ts_sheets.specs.Range.{within_range}
-use Rattle.ts_entry.specs.Reading.{within_rows}
+use Rattle.ts_base.specs.Answer.{within_rows}
 use Rattle.ts_expr.specs.declared.function.Function.{Function}
 use Rattle.ts_expr.specs.Grammar.{item}
 use Rattle.ts_expr.specs.Binding.{bound}

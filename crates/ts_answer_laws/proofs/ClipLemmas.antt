@@ -20,7 +20,8 @@ use Rattle.ts_offset.specs.declared.shape.Shape.{Shape}
 use Rattle.ts_offset.specs.declared.shape.Shape.TheVariants as shapes
 use Rattle.ts_offset.proofs.ListedLemmas.{listed-start, start-listed, listed-rise}
 use Rattle.ts_entry.specs.Entry.{Entry, filled}
-use Rattle.ts_entry.specs.Reading.{entry_at, is_reached, starts_to_last, reading, clipped, within_rows}
+use Rattle.ts_entry.specs.Reading.{entry_at, is_reached, starts_to_last, reading, clipped}
+use Rattle.ts_base.specs.Answer.{within_rows}
 use Rattle.ts_model.specs.Catalogue.{Catalogue, Series, columns_of, shape_of}
 use Rattle.ts_answer.specs.Answer.{Answered, Tried, ◌>>=◌, outcome, carried_out, wanted, known, a_reading, clip_series, count_clip}
 use Rattle.ts_answer.specs.Reply.{count_line, entries_text}

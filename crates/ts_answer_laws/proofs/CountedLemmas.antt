@@ -13,7 +13,8 @@ use Rattle.ts_offset.specs.Grid.{starts_of}
 use Rattle.ts_offset.specs.declared.shape.Shape.{Shape}
 use Rattle.ts_offset.specs.declared.shape.Shape.TheVariants as shapes
 use Rattle.ts_entry.specs.Entry.{Entry, filled}
-use Rattle.ts_entry.specs.Reading.{entry_at, is_reached, starts_to_last, reading, clipped, counted, last_ones, within_rows}
+use Rattle.ts_entry.specs.Reading.{entry_at, is_reached, starts_to_last, reading, clipped, counted, last_ones}
+use Rattle.ts_base.specs.Answer.{within_rows}
 use Rattle.ts_model.specs.Catalogue.{Series, Catalogue, columns_of, shape_of}
 use Rattle.ts_answer.specs.Answer.{Answered, outcome, carried_out, wanted, a_reading, clip_series, clip_counted}
 use Rattle.ts_answer.specs.Reply.{entries_text}

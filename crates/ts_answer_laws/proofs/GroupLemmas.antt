@@ -17,7 +17,7 @@ use Rattle.ts_offset.specs.Grid.{IsHeldFrom, held_start}
 use Rattle.ts_offset.proofs.ListedLemmas.{listed-start, start-listed, listed-rise}
 use Rattle.ts_offset.proofs.OwnLemmas.{held-from, from-held}
 use Rattle.ts_offset.proofs.StartLemmas.{start-one}
-use Rattle.ts_entry.specs.Reading.{within_rows}
+use Rattle.ts_base.specs.Answer.{within_rows}
 use Rattle.ts_entry.specs.Intervals.{Group, is_start, held_from, grouped, by_interval}
 use Rattle.ts_expr.specs.declared.item.Item.{Item}
 use Rattle.ts_expr.specs.declared.item.BoundItem.{BoundItem}

@@ -14,7 +14,7 @@ use Rattle.ts_offset.specs.Counting.{starts_between}
 use Rattle.ts_offset.specs.Grid.{GridPlan}
 use Rattle.ts_offset.specs.declared.shape.Shape.{Shape}
 use Rattle.ts_offset.specs.declared.shape.Shape.TheVariants as shapes
-use Rattle.ts_entry.specs.Reading.{within_rows}
+use Rattle.ts_base.specs.Answer.{within_rows}
 use Rattle.ts_combine.specs.Combine.{Side, every_start, row_around, joined_at, joined_on, joined_there, joined_of, joined, merged_stamps, stamps_between}
 use Rattle.ts_model.specs.Catalogue.{columns_of, shape_of}
 use Rattle.ts_answer.specs.Answer.{Answered, outcome, carried_out, wanted, known, join_series}

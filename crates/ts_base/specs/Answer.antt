@@ -1,6 +1,7 @@
 -- What a call answers.
-use Rattle.std.specs.Prelude.{◌≡◌, Result, Ok, Err, List, Vec}
+use Rattle.std.specs.Prelude.{◌≡◌, ℕ, nat_lt, if◌then◌else◌, Result, Ok, Err, List, length, Vec}
 use Rattle.ts_base.specs.declared.refusal.Refusal.{Refusal}
+use Rattle.ts_base.specs.declared.refusal.Refusal.TheVariants.{TooLarge}
 use Rattle.ts_base.specs.declared.fault.Trouble.{Trouble}
 use Rattle.ts_base.specs.declared.fault.Trouble.TheVariants.{Refused, Memory}
 
@@ -20,3 +21,11 @@ AnswersList answer (Err (Memory error)) = Unit {0}
 abbrev pub Fails : {A : Type 0} → Result A Refusal → Trouble → Type 0
 Fails answer (Refused why) = answer ≡ Err why
 Fails answer (Memory error) = Unit {0}
+
+-- the most rows of a reply
+abbrev pub most_rows : ℕ
+most_rows = 1_000_000
+
+-- rows, where they are no more than a reply may have; else how many they would be
+abbrev pub within_rows : {A : Type 0} → List A → Result (List A) Refusal
+within_rows rows = if nat_lt most_rows (length rows) then Err (TooLarge (length rows)) else Ok rows

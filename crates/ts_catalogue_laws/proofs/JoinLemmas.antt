@@ -20,7 +20,7 @@ use Rattle.ts_offset.specs.Grid.{GridPlan, held_start}
 use Rattle.ts_offset.specs.declared.shape.Shape.{Shape}
 use Rattle.ts_offset.proofs.OwnLemmas.{held-from, from-held}
 use Rattle.ts_irregular.specs.Edit.{element_at}
-use Rattle.ts_entry.specs.Reading.{most_rows, within_rows}
+use Rattle.ts_base.specs.Answer.{most_rows, within_rows}
 use Rattle.ts_combine.specs.Combine.{Side, row_around, values_or_nulls, is_kept, joined_at}
 use Rattle.ts_model.specs.Catalogue.{Series, Catalogue, columns_of}
 use Rattle.ts_answer.specs.Answer.{Answered, Tried}

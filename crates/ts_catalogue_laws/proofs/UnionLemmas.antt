@@ -34,7 +34,7 @@ use Rattle.ts_offset.specs.declared.shape.Shape.{Shape}
 use Rattle.ts_offset.specs.declared.shape.Shape.TheVariants as shapes
 use Rattle.ts_offset.proofs.ListedLemmas.{listed-start, start-listed, listed-rise}
 use Rattle.ts_irregular.specs.Edit.{element_at}
-use Rattle.ts_entry.specs.Reading.{within_rows}
+use Rattle.ts_base.specs.Answer.{within_rows}
 use Rattle.ts_combine.specs.Combine.{Side, by_stamp, merged_stamps, stamps_between, every_start, row_around, is_kept, rows_on, rows_there, joined_there, joined_on, joined_of, joined}
 use Rattle.ts_model.specs.Catalogue.{SeriesKind, Irregular, Regular, Series, Catalogue, calendar_named, columns_of, shape_of}
 use Rattle.ts_answer.specs.Answer.{Answered, outcome, carried_out, wanted, known, join_series}

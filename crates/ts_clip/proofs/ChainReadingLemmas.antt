@@ -10,7 +10,8 @@ use Rattle.ts_cells.specs.IrregularPage.{AreElements}
 use Rattle.ts_irregular.proofs.EditLemmas.{int_lt_no}
 use Rattle.ts_sheets.specs.Range.{is_within, within_range}
 use Rattle.ts_entry.specs.Entry.{Entry, filled, elements_of, AreTaken}
-use Rattle.ts_entry.specs.Reading.{clipped, counted, entry_number, last_ones, most_rows, within_rows}
+use Rattle.ts_entry.specs.Reading.{clipped, counted, entry_number, last_ones}
+use Rattle.ts_base.specs.Answer.{most_rows, within_rows}
 use Rattle.ts_clip.specs.Call.{IsRead}
 use Rattle.ts_clip.specs.declared.chain_cells.Wanted.{Wanted}
 use Rattle.ts_clip.specs.Chain.{wanted_of, ArePassed, first_moment, last_moment}

@@ -13,7 +13,8 @@ use Rattle.ts_offset.specs.Grid.{GridPlan}
 use Rattle.ts_offset.specs.declared.shape.Shape.TheVariants.{Regular}
 use Rattle.ts_regular.specs.Places.{OffsetPage, ArePlaces, AreOn, CanBeRead, IsOn, IsPlace, all_in}
 use Rattle.ts_entry.specs.Entry.{Entry, AreTaken}
-use Rattle.ts_entry.specs.Reading.{most_rows, reading, within_rows}
+use Rattle.ts_entry.specs.Reading.{reading}
+use Rattle.ts_base.specs.Answer.{most_rows, within_rows}
 use Rattle.ts_clip.specs.Call.{IsRead}
 use Rattle.ts_clip.specs.Series.{HaveCells}
 use Rattle.ts_clip.proofs.GridReadingLemmas.{IsReading, own_reading}

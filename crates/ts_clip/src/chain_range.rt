@@ -1,7 +1,7 @@
 // The places of a series that tell of the elements of a range.
 ghost use Rattle.std.specs.Prelude.{◌≡◌, ◌-◌, ◌≤◌, ◌<ℤ◌, ◌≤ℤ◌, IsTrue, false, length, take, drop};
 ghost use Rattle.ts_space.specs.Place.{IsRising, count_of};
-ghost use Rattle.ts_entry.specs.Reading.{most_rows};
+ghost use Rattle.ts_base.specs.Answer.{most_rows};
 ghost use Rattle.ts_clip.specs.Chain.{AreBounded, HaveRange};
 
 use crate::bounds::MOST_ROWS;

@@ -6,7 +6,8 @@ ghost use Rattle.ts_irregular.specs.Call.{Reads};
 ghost use Rattle.ts_sheets.specs.Places.{ArePlaces};
 ghost use Rattle.ts_sheets.specs.Range.{within_range};
 ghost use Rattle.ts_entry.specs.Entry.{AreTaken, filled};
-ghost use Rattle.ts_entry.specs.Reading.{last_ones, most_rows};
+ghost use Rattle.ts_entry.specs.Reading.{last_ones};
+ghost use Rattle.ts_base.specs.Answer.{most_rows};
 ghost use Rattle.ts_clip.specs.Chain.{HoldsOfChain, first_moment};
 
 use crate::bounds::MOST_ROWS;

@@ -7,7 +7,8 @@ ghost use Rattle.ts_offset.specs.declared.shape.Shape.TheVariants.{Regular};
 ghost use Rattle.ts_regular.specs.Places.{ArePlaces, CanBeRead};
 ghost use Rattle.ts_irregular.specs.Call.{Reads};
 ghost use Rattle.ts_entry.specs.Entry.{AreTaken};
-ghost use Rattle.ts_entry.specs.Reading.{reading, clipped, counted, entry_number, within_rows};
+ghost use Rattle.ts_entry.specs.Reading.{reading, clipped, counted, entry_number};
+ghost use Rattle.ts_base.specs.Answer.{within_rows};
 ghost use Rattle.ts_clip.specs.Call.{IsRead};
 ghost use Rattle.ts_clip.specs.Grid.{HoldsOfGrid, between};
 

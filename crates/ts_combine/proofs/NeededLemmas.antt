@@ -16,7 +16,7 @@ use Rattle.ts_base.specs.declared.refusal.Refusal.TheVariants.{BeforeOrigin}
 use Rattle.ts_row.specs.Row.{Row}
 use Rattle.ts_row.specs.Element.{Element}
 use Rattle.ts_irregular.specs.Edit.{element_at}
-use Rattle.ts_entry.specs.Reading.{within_rows}
+use Rattle.ts_base.specs.Answer.{within_rows}
 use Rattle.ts_calendar.specs.Plan.{CalendarPlan}
 use Rattle.ts_calendar.specs.Calendar.{common_grid}
 use Rattle.ts_calendar.specs.Intervals.{IsLaid, IsBefore, start_at}

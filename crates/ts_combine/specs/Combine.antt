@@ -18,7 +18,7 @@ use Rattle.ts_row.specs.declared.value.Value.TheVariants.{Null}
 use Rattle.ts_row.specs.Row.{Row, Values, visible}
 use Rattle.ts_row.specs.Element.{Element}
 use Rattle.ts_irregular.specs.Edit.{element_at}
-use Rattle.ts_entry.specs.Reading.{within_rows}
+use Rattle.ts_base.specs.Answer.{within_rows}
 
 -- a series that is combined: where its elements can stand, how many columns they have, and those that aren't hidden
 pub record Side : Type 0 where

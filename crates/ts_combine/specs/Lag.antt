@@ -8,7 +8,8 @@ use Rattle.ts_offset.specs.declared.shape.Shape.{Shape}
 use Rattle.ts_offset.specs.declared.shape.Shape.TheVariants.{Irregular, Regular}
 use Rattle.ts_row.specs.Element.{Element}
 use Rattle.ts_irregular.specs.Edit.{element_at}
-use Rattle.ts_entry.specs.Reading.{starts_to_last, within_rows}
+use Rattle.ts_entry.specs.Reading.{starts_to_last}
+use Rattle.ts_base.specs.Answer.{within_rows}
 
 -- an offset, unless it lies before the origin
 abbrev pub from_origin : ℤ → Option ℕ

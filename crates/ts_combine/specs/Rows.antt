@@ -4,7 +4,7 @@ use Rattle.ts_base.specs.declared.refusal.Refusal.{Refusal}
 use Rattle.ts_base.specs.declared.refusal.Refusal.TheVariants.{TooLarge}
 use Rattle.ts_base.specs.declared.fault.Trouble.{Trouble}
 use Rattle.ts_base.specs.declared.fault.Trouble.TheVariants.{Refused, Memory}
-use Rattle.ts_entry.specs.Reading.{most_rows}
+use Rattle.ts_base.specs.Answer.{most_rows}
 use Rattle.ts_combine.specs.declared.rows.Rows.{Rows}
 
 -- so many rows are counted, and they are kept where they aren't too many

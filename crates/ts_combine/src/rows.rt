@@ -1,9 +1,8 @@
 // Rows of an answer, which may have 1000000 of them.
 ghost use Rattle.std.specs.Prelude.{◌≡◌, ◌+◌, ◌<◌, ◌≤◌, ◌^◌, [], ◌∷◌, ◌++◌, List, length, OnOk, IsTrue, ◌↔◌};
 ghost use Rattle.std.specs.Prelude.{if◌then◌else◌};
-ghost use Rattle.ts_entry.specs.Reading.{most_rows, within_rows};
 ghost use Rattle.ts_combine.specs.Rows.{Gathers, IsTooLarge, IsRefusedFor};
-ghost use Rattle.ts_base.specs.Answer.{AnswersList};
+ghost use Rattle.ts_base.specs.Answer.{AnswersList, most_rows, within_rows};
 
 use std::alloc::{AllocError, Global};
 use ts_base::{Refusal, Trouble};

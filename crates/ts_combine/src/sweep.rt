@@ -2,7 +2,7 @@
 ghost use Rattle.std.specs.Prelude.{◌≡◌, ◌+◌, ◌<◌, ◌≤◌, ◌^◌, [], ◌++◌, if◌then◌else◌, pos, ◌+ℤ◌, ◌≤ℤ◌, ◌<ℤ◌, ◌⊎◌, List};
 ghost use Rattle.std.specs.Prelude.{length, OnOk, IfOk};
 ghost use Rattle.ts_calendar.specs.First.{IsNear};
-ghost use Rattle.ts_entry.specs.Reading.{most_rows};
+ghost use Rattle.ts_base.specs.Answer.{most_rows};
 ghost use Rattle.ts_offset.specs.Walk.{gap};
 ghost use Rattle.ts_combine.specs.Combine.{is_kept};
 ghost use Rattle.ts_combine.specs.Series.{side_of};

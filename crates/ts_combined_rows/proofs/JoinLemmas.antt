@@ -13,7 +13,7 @@ use Rattle.ts_pattern.specs.declared.junction.Junction.{Junction}
 use Rattle.ts_pattern.specs.declared.junction.Junction.TheVariants.{And, Or}
 use Rattle.ts_offset.specs.declared.shape.Shape.{Shape}
 use Rattle.ts_offset.specs.declared.shape.Shape.TheVariants.{Irregular, Regular}
-use Rattle.ts_entry.specs.Reading.{most_rows, within_rows}
+use Rattle.ts_base.specs.Answer.{most_rows, within_rows}
 use Rattle.ts_clip.specs.Series.{HaveElements}
 use Rattle.ts_combine.specs.Combine.{Side, joined, joined_of, joined_on}
 use Rattle.ts_combine.specs.Call.{HaveNoGrid}

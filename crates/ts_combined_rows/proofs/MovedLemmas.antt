@@ -17,7 +17,7 @@ use Rattle.ts_offset.specs.declared.shape.Shape.{Shape}
 use Rattle.ts_offset.specs.declared.shape.Shape.TheVariants.{Regular}
 use Rattle.ts_entry.specs.Entry.{Entry, filled, elements_of}
 use Rattle.ts_entry.specs.Handed.{AreHanded}
-use Rattle.ts_entry.specs.Reading.{most_rows, within_rows}
+use Rattle.ts_base.specs.Answer.{most_rows, within_rows}
 use Rattle.ts_clip.specs.Call.{AreElementsTaken}
 use Rattle.ts_clip.specs.Series.{HaveElements, IsLaidOut}
 use Rattle.ts_combine.specs.Lag.{lagged}

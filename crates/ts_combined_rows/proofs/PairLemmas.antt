@@ -17,7 +17,7 @@ use Rattle.ts_sheets.specs.Range.{is_within, within_range}
 use Rattle.ts_calendar.specs.First.{near_count}
 use Rattle.ts_offset.specs.declared.shape.Shape.{Shape}
 use Rattle.ts_offset.specs.declared.shape.Shape.TheVariants.{Irregular, Regular}
-use Rattle.ts_entry.specs.Reading.{most_rows, within_rows}
+use Rattle.ts_base.specs.Answer.{most_rows, within_rows}
 use Rattle.ts_clip.specs.Series.{ArePlaces, HaveElements, IsTold}
 use Rattle.ts_combine.specs.Combine.{Side, joined}
 use Rattle.ts_combine.specs.Series.{IsSeries, elements_in, side_of}

@@ -3,7 +3,7 @@ use Rattle.std.specs.Prelude.{◌≡◌, ℕ, ◌+◌, ◌<◌, ◌≤◌, ◌^�
 use Rattle.ts_row.specs.Element.{Element}
 use Rattle.ts_offset.specs.Grid.{GridPlan}
 use Rattle.ts_entry.specs.Entry.{Entry, filled}
-use Rattle.ts_entry.specs.Reading.{most_rows}
+use Rattle.ts_base.specs.Answer.{most_rows}
 use Rattle.ts_combine.specs.Moved.{moved}
 
 -- one that hands on elements so many on starts behind their own, up to a last offset, and how many there were

@@ -6,7 +6,7 @@ use Rattle.ts_page.specs.Pages.{Contents}
 use Rattle.ts_row.specs.declared.kind.Column.{Column}
 use Rattle.ts_row.specs.Element.{Element, seen}
 use Rattle.ts_space.specs.Directory.{places_of}
-use Rattle.ts_entry.specs.Reading.{most_rows, within_rows}
+use Rattle.ts_base.specs.Answer.{most_rows, within_rows}
 use Rattle.ts_clip.specs.Series.{IsTold}
 use Rattle.ts_combine.specs.Combine.{joined}
 use Rattle.ts_answer.specs.Reply.{element_line}

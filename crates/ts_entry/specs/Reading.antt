@@ -1,10 +1,8 @@
 -- What is read of a series: its elements that aren't hidden, and on a grid an entry without an element at each on start
 -- between them and the origin.
-use Rattle.std.specs.Prelude.{ℕ, ◌-◌, nat_lt, ℤ, pos, int_lt, unsigned_abs, Bool, false, not, ◌&&◌, if◌then◌else◌}
-use Rattle.std.specs.Prelude.{Option, Some, None, option_to_list, Result, Ok, Err, List, map, filter, take, drop}
+use Rattle.std.specs.Prelude.{ℕ, ◌-◌, ℤ, pos, int_lt, unsigned_abs, Bool, false, not, ◌&&◌, if◌then◌else◌}
+use Rattle.std.specs.Prelude.{Option, Some, None, option_to_list, List, map, filter, take, drop}
 use Rattle.std.specs.Prelude.{length, slice_get}
-use Rattle.ts_base.specs.declared.refusal.Refusal.{Refusal}
-use Rattle.ts_base.specs.declared.refusal.Refusal.TheVariants.{TooLarge}
 use Rattle.ts_row.specs.Element.{Element, seen}
 use Rattle.ts_irregular.specs.Edit.{element_at, last_of}
 use Rattle.ts_offset.specs.Grid.{GridPlan, starts_of}
@@ -55,11 +53,3 @@ entry_number n entries = option_to_list (slice_get entries n)
 -- the first element that isn't hidden
 abbrev pub first_seen : List Element → Option Element
 first_seen es = slice_get (seen es) 0
-
--- the most rows of a reply
-abbrev pub most_rows : ℕ
-most_rows = 1_000_000
-
--- rows, where they are no more than a reply may have; else how many they would be
-abbrev pub within_rows : {A : Type 0} → List A → Result (List A) Refusal
-within_rows rows = if nat_lt most_rows (length rows) then Err (TooLarge (length rows)) else Ok rows

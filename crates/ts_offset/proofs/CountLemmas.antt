@@ -7,9 +7,10 @@ use Rattle.ts_calendar.specs.Plan.{CalendarPlan}
 use Rattle.ts_calendar.specs.Intervals.{start_at, is_on}
 use Rattle.ts_calendar.proofs.StampLemmas.{int_lt_yes, int_lt_no}
 use Rattle.ts_offset.specs.Walk.{numbers_from, gap, count, on_start, starts_among, on_starts, IsOnStart, IsFirstFrom, IsEnd}
+use Rattle.ts_base.specs.Answer.{within_rows}
 use Rattle.ts_base.specs.declared.refusal.Refusal.TheVariants.{TooLarge}
 use Rattle.ts_pattern.proofs.RunLemmas.{lt_yes, lt_no}
-use Rattle.ts_offset.specs.Counting.{starts_after, starts_between, listed}
+use Rattle.ts_offset.specs.Counting.{starts_after, starts_between}
 use Rattle.ts_offset.specs.Grid.{GridPlan, starts_before, starts_of}
 use Rattle.ts_offset.proofs.ListLemmas.{taken-at}
 use Rattle.ts_offset.proofs.WindowLemmas.{span, rest, far, gap-up, gap-none}
@@ -84,11 +85,11 @@ pub gap-le : (i j : ℤ) → i ≤ℤ j → gap i j ≡ unsigned_abs (j -ℤ i)
 gap-le i j le = by_lt_z i j (λ lt. gap-up i j lt) (λ ge. gap-none i j ge ∙ omega (arith, ints))
 
 -- a list that is too long, and one that isn't
-pub long-list : (l : List ℤ) (n : ℕ) → length l ≡ n → 1_000_000 < n → listed l ≡ Err (TooLarge n)
+pub long-list : (l : List ℤ) (n : ℕ) → length l ≡ n → 1_000_000 < n → within_rows l ≡ Err (TooLarge n)
 long-list l n e lt =
     ap (λ b. cond b (Err (TooLarge (length l))) (Ok l)) (lt_yes 1_000_000 (length l) (omega (arith, e))) ∙ ap (λ m. Err (TooLarge m)) e
 
-pub short-list : (l : List ℤ) (n : ℕ) → length l ≡ n → n ≤ 1_000_000 → listed l ≡ Ok l
+pub short-list : (l : List ℤ) (n : ℕ) → length l ≡ n → n ≤ 1_000_000 → within_rows l ≡ Ok l
 short-list l n e le = ap (λ b. cond b (Err (TooLarge (length l))) (Ok l)) (lt_no 1_000_000 (length l) (omega (arith, e)))
 
 -- there is no element at a place past the end

@@ -1,9 +1,9 @@
 -- What is counted of the on starts of a calendar: CalIndex, CalStamp and CalRange of the Informix TimeSeries Data
 -- User's Guide.
-use Rattle.std.specs.Prelude.{◌≡◌, ℕ, ◌-◌, ◌&&◌, not, nat_lt, if◌then◌else◌, int_lt, ℤ, pos, neg_ℤ, Option, List}
-use Rattle.std.specs.Prelude.{length, filter, slice_get, Result, Ok, Err}
+use Rattle.std.specs.Prelude.{◌≡◌, ℕ, ◌-◌, ◌&&◌, not, if◌then◌else◌, int_lt, ℤ, pos, neg_ℤ, Option, List}
+use Rattle.std.specs.Prelude.{length, filter, slice_get, Result}
 use Rattle.ts_base.specs.declared.refusal.Refusal.{Refusal}
-use Rattle.ts_base.specs.declared.refusal.Refusal.TheVariants.{TooLarge}
+use Rattle.ts_base.specs.Answer.{within_rows}
 use Rattle.ts_calendar.specs.Plan.{CalendarPlan}
 use Rattle.ts_offset.specs.Walk.{on_starts}
 
@@ -28,10 +28,6 @@ cal_stamp c t n = slice_get (starts_later c t) (n - 1)
 abbrev pub starts_between : CalendarPlan → ℤ → ℤ → List ℤ
 starts_between c b e = filter (λ s. not (int_lt s b) && not (int_lt e s)) (on_starts c)
 
--- a list, unless it is longer than 1000000
-abbrev pub listed : List ℤ → Result (List ℤ) Refusal
-listed starts = if nat_lt 1_000_000 (length starts) then Err (TooLarge (length starts)) else Ok starts
-
 -- the on starts from b to e, or how many they are
 abbrev pub cal_range : CalendarPlan → ℤ → ℤ → Result (List ℤ) Refusal
-cal_range c b e = listed (starts_between c b e)
+cal_range c b e = within_rows (starts_between c b e)

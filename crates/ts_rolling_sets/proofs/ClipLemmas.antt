@@ -11,7 +11,8 @@ use Rattle.ts_row.specs.RowType.{Heading}
 use Rattle.ts_row.specs.Element.{Element, seen}
 use Rattle.ts_space.specs.Directory.{places_of}
 use Rattle.ts_entry.specs.Entry.{Entry, filled}
-use Rattle.ts_entry.specs.Reading.{reading, clipped, within_rows, most_rows}
+use Rattle.ts_entry.specs.Reading.{reading, clipped}
+use Rattle.ts_base.specs.Answer.{most_rows, within_rows}
 use Rattle.ts_offset.specs.declared.shape.Shape.{Shape}
 use Rattle.ts_offset.specs.declared.shape.Shape.TheVariants.{Irregular}
 use Rattle.ts_layout.specs.Meaning.{Layout, elements_at, heading_at, shape_at}

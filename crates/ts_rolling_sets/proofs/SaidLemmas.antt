@@ -12,7 +12,7 @@ use Rattle.ts_row.specs.declared.kind.Column.{Column}
 use Rattle.ts_row.specs.Element.{Element, seen}
 use Rattle.ts_sheets.specs.Range.{within_range}
 use Rattle.ts_entry.specs.Entry.{filled}
-use Rattle.ts_entry.specs.Reading.{within_rows, most_rows}
+use Rattle.ts_base.specs.Answer.{most_rows, within_rows}
 use Rattle.ts_offset.specs.Grid.{GridPlan}
 use Rattle.ts_model.specs.Catalogue.{Series, Catalogue, columns_of}
 use Rattle.ts_layout.specs.Meaning.{Layout, elements_at}

@@ -10,7 +10,7 @@ use Rattle.ts_base.specs.declared.refusal.Refusal.TheVariants.{TooLarge, Overflo
 use Rattle.ts_row.specs.Element.{Element, seen}
 use Rattle.ts_sheets.specs.Range.{is_within, within_range}
 use Rattle.ts_entry.specs.Entry.{elements_of}
-use Rattle.ts_entry.specs.Reading.{most_rows}
+use Rattle.ts_base.specs.Answer.{most_rows}
 use Rattle.ts_clip.specs.Call.{AreElementsTaken}
 use Rattle.ts_entry.specs.Handed.{AreHanded}
 use Rattle.ts_aggregate.proofs.ToldLemmas.{few_kept}

@@ -3,7 +3,7 @@ use Rattle.std.specs.Prelude.{ℤ, Result, Ok, Err, List}
 use Rattle.ts_base.specs.declared.refusal.Refusal.{Refusal}
 use Rattle.ts_row.specs.Element.{Element, seen}
 use Rattle.ts_sheets.specs.Range.{within_range}
-use Rattle.ts_entry.specs.Reading.{within_rows}
+use Rattle.ts_base.specs.Answer.{within_rows}
 
 -- rows that are made of elements, where these aren't refused
 abbrev pub rows_by : (List Element → Result (List Element) Refusal) → Result (List Element) Refusal →

@@ -2,7 +2,7 @@
 use Rattle.std.specs.Prelude.{◌≡◌, ℕ, ◌+◌, ◌<◌, ◌≤◌, ◌^◌, IsTrue, ℤ, List, [], ◌∷◌, length}
 use Rattle.ts_row.specs.Row.{visible}
 use Rattle.ts_row.specs.Element.{Element}
-use Rattle.ts_entry.specs.Reading.{most_rows}
+use Rattle.ts_base.specs.Answer.{most_rows}
 use Rattle.ts_expr.specs.declared.function.Function.{Function}
 use Rattle.ts_expr.specs.declared.item.BoundItem.{BoundItem}
 use Rattle.ts_running.specs.Window.{Window, after_push}

@@ -13,7 +13,7 @@ use Rattle.ts_space.specs.Directory.{places_of}
 use Rattle.ts_sheets.specs.Range.{within_range}
 use Rattle.ts_calendar.specs.Plan.{CalendarPlan}
 use Rattle.ts_offset.specs.declared.shape.Shape.{Shape}
-use Rattle.ts_entry.specs.Reading.{within_rows}
+use Rattle.ts_base.specs.Answer.{within_rows}
 use Rattle.ts_entry.specs.Intervals.{by_interval}
 use Rattle.ts_expr.specs.declared.item.Item.{Item}
 use Rattle.ts_expr.specs.Grammar.{read_list}

@@ -5,7 +5,7 @@ use Rattle.std.specs.Prelude.{unsigned_abs, unwrap_or, if◌then◌else◌}
 use Rattle.ts_base.specs.declared.refusal.Refusal.{Refusal}
 use Rattle.ts_base.specs.declared.refusal.Refusal.TheVariants.{BadExpression}
 use Rattle.ts_base.specs.declared.fault.Trouble.{Trouble}
-use Rattle.ts_base.specs.Answer.{Answers}
+use Rattle.ts_base.specs.Answer.{Answers, within_rows}
 use Rattle.ts_command.specs.declared.command.Command.TheVariants.{Apply}
 use Rattle.ts_row.specs.declared.kind.ColumnKind.{ColumnKind}
 use Rattle.ts_row.specs.declared.kind.Column.{Column}
@@ -14,7 +14,6 @@ use Rattle.ts_row.specs.Element.{Element}
 use Rattle.ts_space.specs.Directory.{places_of}
 use Rattle.ts_sheets.specs.Range.{within_range}
 use Rattle.ts_offset.specs.declared.shape.Shape.{Shape}
-use Rattle.ts_entry.specs.Reading.{within_rows}
 use Rattle.ts_expr.specs.declared.function.Function.{Function}
 use Rattle.ts_expr.specs.declared.function.Function.TheVariants.{Sum, Avg, Count, Min, Max, First, Last}
 use Rattle.ts_expr.specs.declared.item.BoundItem.{BoundItem}

@@ -2,7 +2,8 @@
 use Rattle.std.specs.Prelude.{ℕ, unsigned_abs, Result, Ok, List}
 use Rattle.ts_base.specs.declared.refusal.Refusal.{Refusal}
 use Rattle.ts_entry.specs.Entry.{Entry}
-use Rattle.ts_entry.specs.Reading.{clipped, counted, entry_number, within_rows}
+use Rattle.ts_entry.specs.Reading.{clipped, counted, entry_number}
+use Rattle.ts_base.specs.Answer.{within_rows}
 use Rattle.ts_command.specs.declared.command.Command.{Command}
 use Rattle.ts_command.specs.declared.command.Command.TheVariants.{GetNthElem, Clip, ClipCount}
 use Rattle.ts_series_rows.specs.declared.reading.Choice.{Choice}

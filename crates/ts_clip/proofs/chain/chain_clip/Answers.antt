@@ -8,7 +8,7 @@ use Rattle.ts_row.specs.Element.{Element, seen}
 use Rattle.ts_offset.specs.declared.shape.Shape.TheVariants.{Irregular}
 use Rattle.ts_sheets.specs.Range.{within_range}
 use Rattle.ts_entry.specs.Entry.{Entry, filled, AreTaken}
-use Rattle.ts_entry.specs.Reading.{most_rows, within_rows}
+use Rattle.ts_base.specs.Answer.{most_rows, within_rows}
 use Rattle.ts_clip.specs.Call.{IsRead}
 use Rattle.ts_clip.specs.Series.{IsTold}
 use Rattle.ts_clip.proofs.ChainReadingLemmas.{clipped_filled, read_over, read_all}

@@ -3,7 +3,7 @@ use Rattle.std.proofs.Common.{◌≡◌, ◌∙◌, ℤ, List, Result, sym, ap, 
 use Rattle.std.proofs.lemmas.Int.{ints}
 use Rattle.ts_base.specs.declared.refusal.Refusal.{Refusal}
 use Rattle.ts_row.specs.Element.{Element}
-use Rattle.ts_entry.specs.Reading.{within_rows}
+use Rattle.ts_base.specs.Answer.{within_rows}
 use Rattle.ts_offset.specs.declared.shape.Shape.{Shape}
 use Rattle.ts_calendar.specs.Intervals.{IsLaid}
 use Rattle.ts_combine.specs.Lag.{lagged}

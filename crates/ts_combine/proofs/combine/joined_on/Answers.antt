@@ -2,7 +2,7 @@
 use Rattle.std.proofs.Common.{◌∙◌, inl, ℤ, List, Result, sym, ap, subst}
 use Rattle.ts_row.specs.Element.{Element}
 use Rattle.ts_base.specs.declared.refusal.Refusal.{Refusal}
-use Rattle.ts_entry.specs.Reading.{within_rows}
+use Rattle.ts_base.specs.Answer.{within_rows}
 use Rattle.ts_combine.specs.Series.{side_of}
 use Rattle.ts_combine.specs.Call.{joined_row, AnswersRows}
 use Rattle.ts_combine.specs.Reach.{rows_held}
