@@ -8,7 +8,7 @@ use Rattle.ts_row.specs.declared.row.Elem.{Elem}
 use Rattle.ts_row.specs.Row.{visible}
 use Rattle.ts_row.specs.Element.{Element}
 use Rattle.ts_offset.specs.Grid.{GridPlan}
-use Rattle.ts_combine.specs.Series.{elements_in}
+use Rattle.ts_entry.specs.Entry.{element_in, elements_in}
 use Rattle.ts_combine.specs.Rows.{Gathers}
 use Rattle.ts_combine.specs.Moved.{start_behind, moved, lagged_row, GathersLagged}
 use Rattle.ts_combine.specs.declared.joined.Lagged.{Lagged}
@@ -37,7 +37,7 @@ one-more : (grid : GridPlan) (by : ℤ) (last : ℕ) (elems : List Elem) (n : �
     ≡ filter_map (moved grid by last) (take n (elements_in elems)) ++ cons_option (option_map (λ s. (s, e.row)) o) []
 one-more grid by last elems n e o there start =
     let es = elements_in elems in
-    let at : slice_get es n ≡ Some (e.stamp, e.row) = slice_get-map (λ (x : Elem). (x.stamp, x.row)) elems n ∙ ap (option_map (λ (x : Elem). (x.stamp, x.row))) there in
+    let at : slice_get es n ≡ Some (e.stamp, e.row) = slice_get-map element_in elems n ∙ ap (option_map element_in) there in
     let x : Element = (e.stamp, e.row) in
     ap (filter_map (moved grid by last)) (take_more es n x (slice_get_within es n x at) ∙ ap (λ y. take n es ++ y ∷ []) (get_or_from_slice_get es n x x at))
     ∙ filter_map-append (moved grid by last) (take n es) (x ∷ [])
@@ -59,7 +59,7 @@ pub lagging-some : (grid : GridPlan) (by : ℤ) (last : ℕ) (elems : List Elem)
     → IsLagging grid by last elems more (n + 1)
 lagging-some grid by last elems rows more n e s way there start gathers count =
     let es = elements_in elems in
-    let at : slice_get es n ≡ Some (e.stamp, e.row) = slice_get-map (λ (x : Elem). (x.stamp, x.row)) elems n ∙ ap (option_map (λ (x : Elem). (x.stamp, x.row))) there in
+    let at : slice_get es n ≡ Some (e.stamp, e.row) = slice_get-map element_in elems n ∙ ap (option_map element_in) there in
     let row : Lagged = record { stamp = s; index = n } in
     record {
       few = let few = way.few in omega (arith, few, count);
@@ -78,5 +78,5 @@ all-lagged grid by last elems rows n way over = record {
   all = way.all;
   gathers = way.gathers;
   within = way.within;
-  are = way.are ∙ ap (filter_map (moved grid by last)) (take_all n (elements_in elems) (let size = length-map {B = Element} elems (λ (e : Elem). (e.stamp, e.row)) in omega (arith, size, over)));
+  are = way.are ∙ ap (filter_map (moved grid by last)) (take_all n (elements_in elems) (let size = length-map {B = Element} elems element_in in omega (arith, size, over)));
 }

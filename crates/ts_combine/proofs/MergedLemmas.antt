@@ -13,7 +13,8 @@ use Rattle.ts_irregular.proofs.EditLemmas.{AreRising-tail}
 use Rattle.ts_pattern.specs.declared.junction.Junction.{Junction}
 use Rattle.ts_pattern.specs.declared.junction.Junction.TheVariants.{And, Or}
 use Rattle.ts_combine.specs.Combine.{Side, is_in, is_kept, values_or_nulls, rows_there}
-use Rattle.ts_combine.specs.Series.{elements_in, side_of}
+use Rattle.ts_combine.specs.Series.{side_of}
+use Rattle.ts_entry.specs.Entry.{element_in, elements_in}
 use Rattle.ts_combine.specs.Rows.{Gathers}
 use Rattle.ts_combine.specs.Call.{row_at, joined_row, HasElements, GathersJoined, IsIndex}
 use Rattle.ts_combine.specs.Merge.{stamp_at, IsBeforeAny, IsTaken, behind}
@@ -58,7 +59,7 @@ there-some None s at = absurd (cc)
 
 stamp-of : (elems : List Elem) (i : ℕ) → stamp_at elems i ≡ option_map (λ e. e.0) (slice_get (elements_in elems) i)
 stamp-of elems i =
-    sym (ap (option_map (λ e. e.0)) (slice_get-map (λ (e : Elem). (e.stamp, e.row)) elems i) ∙ mapped (λ (e : Elem). (e.stamp, e.row)) (λ e. e.0) (slice_get elems i))
+    sym (ap (option_map (λ e. e.0)) (slice_get-map element_in elems i) ∙ mapped element_in (λ e. e.0) (slice_get elems i))
 
 next-there : (elems : List Elem) (i : ℕ) (s : ℤ) → stamp_at elems i ≡ Some s → (e : Element) × (slice_get (elements_in elems) i ≡ Some e) × (e.0 ≡ s)
 next-there elems i s at = there-some (slice_get (elements_in elems) i) s (sym (stamp-of elems i) ∙ at)
@@ -225,9 +226,9 @@ all-gathered junction a b from to rows i j way i_end j_end =
           sym (append-nil (map (joined_row (side_of a) (side_of b)) way.all))
           ∙ ap (λ l. map (joined_row (side_of a) (side_of b)) way.all ++ l)
           (sym (ap (λ l. rows_there junction (with_elements (side_of a) l) (with_elements (side_of b) (drop j fs)) from to)
-          (drop_all i es (omega (arith, i_end, length-map {B = Element} a.elems.now (λ (e : Elem). (e.stamp, e.row)))))
+          (drop_all i es (omega (arith, i_end, length-map {B = Element} a.elems.now element_in)))
           ∙ ap (λ l. rows_there junction (with_elements (side_of a) []) (with_elements (side_of b) l) from to)
-          (drop_all j fs (omega (arith, j_end, length-map {B = Element} b.elems.now (λ (e : Elem). (e.stamp, e.row)))))
+          (drop_all j fs (omega (arith, j_end, length-map {B = Element} b.elems.now element_in)))
           ∙ next-none junction (side_of a) (side_of b) from to))
           ∙ way.left a_series.rising b_series.rising;
     }

@@ -15,7 +15,8 @@ use Rattle.ts_offset.proofs.WindowLemmas.{gap-none}
 use Rattle.ts_offset.proofs.CountLemmas.{gap-le}
 use Rattle.ts_pattern.specs.declared.junction.Junction.{Junction}
 use Rattle.ts_combine.specs.Combine.{is_kept, joined_at, values_or_nulls}
-use Rattle.ts_combine.specs.Series.{elements_in, side_of, IsSeries}
+use Rattle.ts_combine.specs.Series.{side_of, IsSeries}
+use Rattle.ts_entry.specs.Entry.{elements_in}
 use Rattle.ts_combine.specs.Rows.{Gathers}
 use Rattle.ts_combine.specs.Call.{row_at, joined_row, IsIndex, HasElements, GathersJoined}
 use Rattle.ts_combine.specs.Line.{starts_of_next, starts_up_to}

@@ -14,7 +14,8 @@ use Rattle.ts_calendar.proofs.StampLemmas.{int_lt_yes, int_lt_no}
 use Rattle.ts_offset.specs.Walk.{IsOnStart}
 use Rattle.ts_offset.specs.Grid.{held_start}
 use Rattle.ts_offset.proofs.OwnLemmas.{from-held}
-use Rattle.ts_combine.specs.Series.{elements_in, side_of, IsSeries}
+use Rattle.ts_combine.specs.Series.{side_of, IsSeries}
+use Rattle.ts_entry.specs.Entry.{element_in, elements_in}
 use Rattle.ts_combine.specs.Call.{row_at, IsIndex}
 use Rattle.ts_combine.specs.Reach.{IsOnCalendar, IsReach, IsNext, row_held, reach_end, index_at}
 use Rattle.ts_combine.specs.declared.reach.Reach.{Reach}
@@ -32,11 +33,11 @@ tracked-first c line limit elems r at reach none = record { reach = reach; passe
 
 -- an element as a pair
 pair-of : (elems : List Elem) (i : ℕ) (e : Elem) → slice_get elems i ≡ Some e → slice_get (elements_in elems) i ≡ Some (e.stamp, e.row)
-pair-of elems i e there = slice_get-map (λ (x : Elem). (x.stamp, x.row)) elems i ∙ ap (option_map (λ (x : Elem). (x.stamp, x.row))) there
+pair-of elems i e there = slice_get-map element_in elems i ∙ ap (option_map element_in) there
 
 of-pair : (elems : List Elem) (i : ℕ) (x : Element) → slice_get (elements_in elems) i ≡ Some x → (e : Elem) × (slice_get elems i ≡ Some e) × (e.stamp ≡ x.0)
-of-pair elems i x there = by (slice_get elems i) refl (sym (slice_get-map (λ (y : Elem). (y.stamp, y.row)) elems i) ∙ there) where
-  by : (o : Option Elem) → slice_get elems i ≡ o → ◌≡◌ {A = Option Element} (option_map (λ (y : Elem). (y.stamp, y.row)) o) (Some x) → (e : Elem) × (slice_get elems i ≡ Some e) × (e.stamp ≡ x.0)
+of-pair elems i x there = by (slice_get elems i) refl (sym (slice_get-map element_in elems i) ∙ there) where
+  by : (o : Option Elem) → slice_get elems i ≡ o → ◌≡◌ {A = Option Element} (option_map element_in o) (Some x) → (e : Elem) × (slice_get elems i ≡ Some e) × (e.stamp ≡ x.0)
   by (Some e) is same = (e, is, ap (λ (y : Element). y.0) (same_Some (e.stamp, e.row) x same))
   by None is same = absurd (cc)
 

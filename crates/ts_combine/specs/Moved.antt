@@ -7,7 +7,7 @@ use Rattle.ts_row.specs.Element.{Element}
 use Rattle.ts_irregular.specs.Edit.{last_of}
 use Rattle.ts_offset.specs.Grid.{GridPlan, starts_before, stamp_of}
 use Rattle.ts_combine.specs.Lag.{from_origin}
-use Rattle.ts_combine.specs.Series.{elements_in}
+use Rattle.ts_entry.specs.Entry.{elements_in}
 use Rattle.ts_combine.specs.Rows.{Gathers}
 use Rattle.ts_combine.specs.Call.{row_at}
 use Rattle.ts_combine.specs.declared.joined.Lagged.{Lagged}

@@ -1,7 +1,7 @@
 -- Series as they are handed in to be combined: what they mean, and what the clauses take for granted of their elements.
-use Rattle.std.specs.Prelude.{◌≡◌, ℕ, ℤ, ◌≤ℤ◌, Option, Some, None, List, map, filter}
+use Rattle.std.specs.Prelude.{◌≡◌, ℕ, ℤ, ◌≤ℤ◌, Option, Some, None, List, filter}
 use Rattle.std.specs.Borrow.{Bor}
-use Rattle.ts_row.specs.declared.row.Elem.{Elem}
+use Rattle.ts_entry.specs.Entry.{elements_in}
 use Rattle.ts_row.specs.Row.{Row}
 use Rattle.ts_row.specs.Element.{Element}
 use Rattle.ts_cells.specs.IrregularPage.{AreRising}
@@ -13,10 +13,6 @@ use Rattle.ts_offset.specs.declared.shape.Shape.{Shape}
 use Rattle.ts_offset.specs.declared.shape.Shape.TheVariants.{Irregular, Regular}
 use Rattle.ts_combine.specs.declared.side.Side as given
 use Rattle.ts_combine.specs.Combine.{Side, is_in}
-
--- elements as pairs of a stamp and a row
-abbrev pub elements_in : List Elem → List Element
-elements_in elems = map (λ e. (e.stamp, e.row)) elems
 
 -- what a series that is handed in means
 abbrev pub side_of : given.Side → Side

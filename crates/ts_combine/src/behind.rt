@@ -1,7 +1,8 @@
 // A series against itself, so many on starts earlier.
 ghost use Rattle.std.specs.Prelude.{◌≡◌, ◌<◌, ◌⊎◌, length, filter_map, IfOk, All};
 ghost use Rattle.ts_combine.specs.Lag.{lagged};
-ghost use Rattle.ts_combine.specs.Series.{elements_in, side_of, IsSeries, IsLaidOut};
+ghost use Rattle.ts_combine.specs.Series.{side_of, IsSeries, IsLaidOut};
+ghost use Rattle.ts_entry.specs.Entry.{elements_in};
 ghost use Rattle.ts_combine.specs.Rows.{IsTooLarge, IsRefusedFor};
 ghost use Rattle.ts_combine.specs.Call.{AnswersRows, IsNotOnGrid};
 ghost use Rattle.ts_combine.specs.Moved.{offset_behind, start_behind, moved, last_offset, lagged_row, GathersLagged};

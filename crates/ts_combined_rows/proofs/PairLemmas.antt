@@ -20,7 +20,8 @@ use Rattle.ts_offset.specs.declared.shape.Shape.TheVariants.{Irregular, Regular}
 use Rattle.ts_base.specs.Answer.{most_rows, within_rows}
 use Rattle.ts_clip.specs.Series.{ArePlaces, HaveElements, IsTold}
 use Rattle.ts_combine.specs.Combine.{Side, joined}
-use Rattle.ts_combine.specs.Series.{IsSeries, elements_in, side_of}
+use Rattle.ts_combine.specs.Series.{IsSeries, side_of}
+use Rattle.ts_entry.specs.Entry.{elements_in}
 use Rattle.ts_combine.specs.Call.{joined_row}
 use Rattle.ts_combine.specs.declared.joined.Joined.{Joined}
 use Rattle.ts_combine.specs.declared.side.Side as given

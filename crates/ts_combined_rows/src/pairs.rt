@@ -6,7 +6,8 @@ ghost use Rattle.ts_model.specs.Definitions.{series_slots};
 ghost use Rattle.ts_base.specs.declared.refusal.Refusal.TheVariants.{TooLarge};
 ghost use Rattle.ts_combine.specs.Call.{joined_row};
 ghost use Rattle.ts_combine.specs.Rows.{IsTooLarge};
-ghost use Rattle.ts_combine.specs.Series.{elements_in, side_of};
+ghost use Rattle.ts_combine.specs.Series.{side_of};
+ghost use Rattle.ts_entry.specs.Entry.{elements_in};
 ghost use Rattle.ts_combined_rows.specs.Combining.{AllFit, AreOfSeries, HaveGrid, IsThere};
 ghost use Rattle.ts_combined_rows.specs.Pairs.{columns_in, AreAdded, AreTold, CanBeJoined, IsPartSaid};
 

@@ -3,7 +3,8 @@ ghost use Rattle.std.specs.Prelude.{◌≡◌, ◌++◌, ◌⊎◌, OnOk, map, l
 ghost use Rattle.std.specs.List.{flat_map};
 ghost use Rattle.std.specs.Option.{option_copied};
 ghost use Rattle.ts_combine.specs.Combine.{joined};
-ghost use Rattle.ts_combine.specs.Series.{side_of, elements_in, IsSeries, HasCalendar};
+ghost use Rattle.ts_combine.specs.Series.{side_of, IsSeries, HasCalendar};
+ghost use Rattle.ts_entry.specs.Entry.{elements_in};
 ghost use Rattle.ts_combine.specs.Call.{AnswersRows, HaveNoGrid, joined_row, row_at};
 ghost use Rattle.ts_combine.specs.Rows.{IsRefusedFor, IsTooLarge};
 ghost use Rattle.ts_answer.specs.Reply.{element_line};

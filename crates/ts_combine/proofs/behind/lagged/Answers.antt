@@ -2,7 +2,7 @@
 use Rattle.std.proofs.Common.{◌≡◌, ◌∙◌, ◌+◌, ℤ, ℕ, to_z, of_z, w64, refl, length, filter_map, sym, subst, arith}
 use Rattle.std.proofs.lemmas.Int.{ints}
 use Rattle.std.proofs.lemmas.Option.{slice_get_read}
-use Rattle.ts_combine.specs.Series.{elements_in}
+use Rattle.ts_entry.specs.Entry.{elements_in}
 use Rattle.ts_combine.specs.Moved.{moved, last_offset, GathersLagged}
 use Rattle.ts_combine.specs.declared.joined.Lagged.{Lagged}
 use Rattle.ts_combine.specs.declared.rows.Rows.{Rows}

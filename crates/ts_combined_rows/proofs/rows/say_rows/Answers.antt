@@ -1,5 +1,6 @@
 use Rattle.std.proofs.Common.{◌++◌, length}
-use Rattle.ts_combine.specs.Series.{side_of, elements_in}
+use Rattle.ts_combine.specs.Series.{side_of}
+use Rattle.ts_entry.specs.Entry.{elements_in}
 use Rattle.ts_combine.specs.Call.{joined_row, row_at}
 use Rattle.ts_answer.specs.Reply.{element_line}
 use Rattle.ts_combined_rows.proofs.SaidRowsLemmas.{said_more, said_all, row_fits, joined_line}

@@ -1,7 +1,8 @@
 -- The rows so far are said, where the rows of both series fit.
 use Rattle.std.proofs.Common.{◌≡◌, ◌++◌, map, take}
 use Rattle.std.specs.List.{flat_map}
-use Rattle.ts_combine.specs.Series.{side_of, elements_in}
+use Rattle.ts_combine.specs.Series.{side_of}
+use Rattle.ts_entry.specs.Entry.{elements_in}
 use Rattle.ts_combine.specs.Call.{joined_row}
 use Rattle.ts_answer.specs.Reply.{element_line}
 use Rattle.ts_combined_rows.specs.Combining.{AllFit}
