@@ -5,6 +5,7 @@ use Rattle.std.specs.FinMap.{entries, entries_sorted, entries-from_sorted, find,
 use Rattle.std.specs.FinMap.Entries.{find-where_key, is_sorted-where_key}
 use Rattle.std.specs.Cmp.{int_cmp_total}
 use Rattle.std.specs.Ordering.{int_cmp, int_eq}
+use Rattle.ts_base.specs.Moment.{is_between}
 use Rattle.ts_base.specs.declared.refusal.Refusal.{Refusal}
 use Rattle.ts_row.specs.declared.value.Literal.{Literal}
 use Rattle.ts_row.specs.Element.{Element}
@@ -116,10 +117,6 @@ none_taken cat answered key stamp why s there address is =
       line = ap (λ (a : Answered). a.0) same;
       comes = ap (λ (a : Answered). a.1) same;
     }
-
--- a stamp from one to another
-abbrev is_between : ℤ → ℤ → ℤ → Bool
-is_between from to at = not (int_lt at from) && not (int_lt to at)
 
 turned : {X : Type 0} (b : Bool) (x y : X) → cond (not b) x y ≡ cond b y x
 turned true x y = refl

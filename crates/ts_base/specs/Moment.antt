@@ -1,5 +1,5 @@
 -- Stamps as numbers: units of 10 microseconds since 1970-01-01 00:00:00.
-use Rattle.std.specs.Prelude.{ℕ, zero, suc, ◌+◌, ◌-◌, ◌*◌, Bool, ◌&&◌, nat_lt, nat_le, if◌then◌else◌, ℤ, pos, neg_ℤ}
+use Rattle.std.specs.Prelude.{ℕ, zero, suc, ◌+◌, ◌-◌, ◌*◌, Bool, not, ◌&&◌, nat_lt, nat_le, if◌then◌else◌, ℤ, pos, neg_ℤ}
 use Rattle.std.specs.Prelude.{◌+ℤ◌, ◌*ℤ◌, unsigned_abs, int_lt, Option, Some, None}
 use Rattle.std.specs.Int.{int_div_euclid, int_rem_euclid}
 use Rattle.jiff_core.specs.Calendar.{IsBetween, days_from_civil, days_in_month, days_in_year}
@@ -13,6 +13,10 @@ abbrev pub stamp_if_any : ℤ → Option ℤ
 stamp_if_any t =
     if int_lt t (neg_ℤ (pos 6_213_559_680_000_000)) then None
     else (if int_lt (pos 25_340_230_079_999_999) t then None else Some t)
+
+-- a stamp stands from one to another, both included
+abbrev pub is_between : ℤ → ℤ → ℤ → Bool
+is_between from to t = not (int_lt t from) && not (int_lt to t)
 
 -- a date and a time of day; the fraction counts units of 10 microseconds
 pub record Moment : Type 0 where

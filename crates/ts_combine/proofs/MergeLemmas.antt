@@ -8,7 +8,8 @@ use Rattle.ts_row.specs.Element.{Element}
 use Rattle.ts_irregular.specs.Edit.{element_at}
 use Rattle.ts_irregular.proofs.EditLemmas.{element_at-lower, element_at-same}
 use Rattle.ts_pattern.specs.declared.junction.Junction.{Junction}
-use Rattle.ts_combine.specs.Combine.{Side, by_stamp, is_in, merged_stamps, joined_at, rows_there}
+use Rattle.ts_combine.specs.Combine.{Side, by_stamp, merged_stamps, joined_at, rows_there}
+use Rattle.ts_base.specs.Moment.{is_between}
 use Rattle.ts_combine.proofs.OrderLemmas.{AreLater, later-append, later-entries, none-later, stamps-first, stamps-second, stamps-both, stamps-none}
 
 -- a series with other elements
@@ -27,7 +28,7 @@ same-later s f g p (e ∷ es) later same = by (p e.0) (same-later s f g p es lat
 
 -- the row at one stamp, where that is in the range
 abbrev pub row_there : Junction → Side → Side → ℤ → ℤ → ℤ → Option Row → Option Row → Option Element
-row_there junction a b from to s x y = cond (is_in from to s) (joined_at junction a b s x y) None
+row_there junction a b from to s x y = cond (is_between from to s) (joined_at junction a b s x y) None
 
 first-kept : (f : ℤ → Option Element) (p : ℤ → Bool) (s : ℤ) (ts : List ℤ) → filter_map f (filter p (s ∷ ts)) ≡ cons_option (cond (p s) (f s) None) (filter_map f (filter p ts))
 first-kept f p s ts = by (p s) where
@@ -47,7 +48,7 @@ next-row : (junction : Junction) (a b : Side) (es fs us vs : List Element) (from
     ≡ cons_option (row_there junction a b from to s x y) (rows_there junction (with_elements a es) (with_elements b fs) from to)
 next-row junction a b es fs us vs from to s x y stamps es_later fs_later x_is y_is us_same vs_same =
     let f = there junction a b us vs in
-    let p = is_in from to in
+    let p = is_between from to in
     ap (λ ts. filter_map f (filter p ts)) stamps ∙ first-kept f p s (merged_stamps es fs)
     ∙ ap (λ l. cons_option (cond (p s) (f s) None) l) (same-later s f (there junction a b es fs) p (entries (by_stamp (es ++ fs)))
     (later-entries s (es ++ fs) (later-append s es fs es_later fs_later))
@@ -83,4 +84,4 @@ next-both junction a b e f es fs from to same later then_ =
     (at-it e es f.0 same) (at-it f fs f.0 refl) (λ t lt. behind-it e es f.0 t same lt) (λ t lt. behind-it f fs f.0 t refl lt)
 
 pub next-none : (junction : Junction) (a b : Side) (from to : ℤ) → rows_there junction (with_elements a []) (with_elements b []) from to ≡ []
-next-none junction a b from to = ap (λ ts. filter_map (there junction a b [] []) (filter (is_in from to) ts)) stamps-none
+next-none junction a b from to = ap (λ ts. filter_map (there junction a b [] []) (filter (is_between from to) ts)) stamps-none

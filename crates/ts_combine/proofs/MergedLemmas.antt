@@ -12,7 +12,8 @@ use Rattle.ts_cells.specs.IrregularPage.{AreRising}
 use Rattle.ts_irregular.proofs.EditLemmas.{AreRising-tail}
 use Rattle.ts_pattern.specs.declared.junction.Junction.{Junction}
 use Rattle.ts_pattern.specs.declared.junction.Junction.TheVariants.{And, Or}
-use Rattle.ts_combine.specs.Combine.{Side, is_in, is_kept, values_or_nulls, rows_there}
+use Rattle.ts_combine.specs.Combine.{Side, is_kept, values_or_nulls, rows_there}
+use Rattle.ts_base.specs.Moment.{is_between}
 use Rattle.ts_combine.specs.Series.{side_of}
 use Rattle.ts_entry.specs.Entry.{element_in, elements_in}
 use Rattle.ts_combine.specs.Rows.{Gathers}
@@ -96,17 +97,17 @@ abbrev row_of : ℤ → Option ℕ → Option ℕ → Joined
 row_of s u v = record { stamp = s; first = u; second = v }
 
 abbrev row_if : Junction → Side → Side → ℤ → ℤ → ℤ → Option ℕ → Option ℕ → Option Element
-row_if junction a b from to s u v = cond (is_in from to s && is_kept junction u v) (Some (joined_row a b (row_of s u v))) None
+row_if junction a b from to s u v = cond (is_between from to s && is_kept junction u v) (Some (joined_row a b (row_of s u v))) None
 
 row-same : (junction : Junction) (a b : Side) (from to t s : ℤ) (x y : Option Row) (u v : Option ℕ) → t ≡ s
     → row_at a.elements u ≡ x → row_at b.elements v ≡ y → is_some x ≡ is_some u → is_some y ≡ is_some v
     → row_there junction a b from to t x y ≡ row_if junction a b from to s u v
 row-same junction a b from to t s x y u v same x_is y_is p q =
     ap (λ r. row_there junction a b from to r x y) same
-    ∙ ap (λ k. cond (is_in from to s) (cond k (Some (s, visible (values_or_nulls a.columns x ++ values_or_nulls b.columns y))) None) None) (kept-same junction x y u v p q)
-    ∙ both-tests (is_in from to s) (is_kept junction u v) (s, visible (values_or_nulls a.columns x ++ values_or_nulls b.columns y))
-    ∙ ap (λ o. cond (is_in from to s && is_kept junction u v) (Some (s, visible (values_or_nulls a.columns o ++ values_or_nulls b.columns y))) None) (sym x_is)
-    ∙ ap (λ o. cond (is_in from to s && is_kept junction u v) (Some (s, visible (values_or_nulls a.columns (row_at a.elements u) ++ values_or_nulls b.columns o))) None) (sym y_is)
+    ∙ ap (λ k. cond (is_between from to s) (cond k (Some (s, visible (values_or_nulls a.columns x ++ values_or_nulls b.columns y))) None) None) (kept-same junction x y u v p q)
+    ∙ both-tests (is_between from to s) (is_kept junction u v) (s, visible (values_or_nulls a.columns x ++ values_or_nulls b.columns y))
+    ∙ ap (λ o. cond (is_between from to s && is_kept junction u v) (Some (s, visible (values_or_nulls a.columns o ++ values_or_nulls b.columns y))) None) (sym x_is)
+    ∙ ap (λ o. cond (is_between from to s && is_kept junction u v) (Some (s, visible (values_or_nulls a.columns (row_at a.elements u) ++ values_or_nulls b.columns o))) None) (sym y_is)
 
 row-there : (es : List Element) (i n : ℕ) (e : Element) → n ≡ i → slice_get es i ≡ Some e → row_at es (Some n) ≡ Some e.1
 row-there es i n e same there = ap (λ k. option_map (λ e. e.1) (slice_get es k)) same ∙ ap (option_map (λ e. e.1)) there
@@ -189,11 +190,11 @@ taken-same elems i s u taken = subst (λ o. IsTaken o i s u) (stamp-of elems i) 
 -- one stamp on
 pub one-on : (junction : Junction) (a b : given.Side) (from to : ℤ) (rows more : Rows Joined) (i j : ℕ) (row : Joined) → IsUnderWay junction a b from to rows i j
     → IsTaken (stamp_at a.elems.now i) i row.stamp row.first → IsTaken (stamp_at b.elems.now j) j row.stamp row.second → (IsSome row.first ⊎ IsSome row.second)
-    → ((all : List Joined) → Gathers rows all → Gathers more (all ++ cond (is_in from to row.stamp && is_kept junction row.first row.second) (row ∷ []) []))
+    → ((all : List Joined) → Gathers rows all → Gathers more (all ++ cond (is_between from to row.stamp && is_kept junction row.first row.second) (row ∷ []) []))
     → more.count ≤ rows.count + 1
     → IsUnderWay junction a b from to more (behind row.first i) (behind row.second j)
 one-on junction a b from to rows more i j row way u_is v_is some gathers count =
-    let kept = is_in from to row.stamp && is_kept junction row.first row.second in
+    let kept = is_between from to row.stamp && is_kept junction row.first row.second in
     let u = taken-within a.elems.now i row.stamp row.first way.i_within u_is in
     let v = taken-within b.elems.now j row.stamp row.second way.j_within v_is in
     record {

@@ -10,7 +10,7 @@ use Rattle.std.proofs.lemmas.Bool.{and_parts}
 use Rattle.std.proofs.lemmas.Int.{by_lt_z, ints}
 use Rattle.std.proofs.lemmas.List.Elements.{filter-append}
 use Rattle.std.proofs.lemmas.Option.{same_Some}
-use Rattle.ts_base.specs.Moment.{IsStamp}
+use Rattle.ts_base.specs.Moment.{IsStamp, is_between}
 use Rattle.ts_base.specs.declared.refusal.Refusal.{Refusal}
 use Rattle.ts_base.specs.declared.refusal.Refusal.TheVariants.{BeforeOrigin}
 use Rattle.ts_row.specs.Row.{Row}
@@ -28,7 +28,7 @@ use Rattle.ts_offset.specs.declared.shape.Shape.{Shape}
 use Rattle.ts_offset.specs.declared.shape.Shape.TheVariants.{Irregular, Regular}
 use Rattle.ts_offset.proofs.OwnLemmas.{held-from, from-held}
 use Rattle.ts_pattern.specs.declared.junction.Junction.{Junction}
-use Rattle.ts_combine.specs.Combine.{Side, by_stamp, is_in, merged_stamps, stamps_between, every_start, row_around, joined_at, joined_on, joined_there, joined_of, joined}
+use Rattle.ts_combine.specs.Combine.{Side, by_stamp, merged_stamps, stamps_between, every_start, row_around, joined_at, joined_on, joined_there, joined_of, joined}
 use Rattle.ts_combine.specs.Series.{IsStartOf, AreOnStarts, IsSeries, IsLaidOut, IsEnough, side_within}
 use Rattle.ts_combine.proofs.RisingLemmas.{risen-kept, kept-one, one-at}
 use Rattle.ts_combine.proofs.OrderLemmas.{rising-risen, risen-rising}
@@ -66,10 +66,10 @@ passing-twice p q (e ∷ es) wider = by (q e.0) refl (p e.0) refl (passing-twice
   by false q_is false p_is rest = rest
 
 -- the stamps of two lists in a range are those of what passes a wider test
-same-stamps : (p q : ℤ → Bool) (from to : ℤ) (es fs : List Element) → ((s : ℤ) → is_in from to s ≡ true → p s ≡ true) → ((s : ℤ) → is_in from to s ≡ true → q s ≡ true)
+same-stamps : (p q : ℤ → Bool) (from to : ℤ) (es fs : List Element) → ((s : ℤ) → is_between from to s ≡ true → p s ≡ true) → ((s : ℤ) → is_between from to s ≡ true → q s ≡ true)
     → stamps_between from to (merged_stamps (passing p es) (passing q fs)) ≡ stamps_between from to (merged_stamps es fs)
 same-stamps p q from to es fs p_wider q_wider =
-    let r = is_in from to in
+    let r = is_between from to in
     let e = λ (e : Element). r e.0 in
     stamps-passing r (entries (by_stamp (passing p es ++ passing q fs))) ∙ ap (map (λ e. e.0)) (sym (entries-passing r (passing p es ++ passing q fs)))
     ∙ ap (λ l. map (λ e. e.0) (entries (by_stamp l)))
@@ -90,20 +90,20 @@ not-true true h = sym h
 not-true false h = refl
 
 -- what a range is
-in-range : (from to s : ℤ) → is_in from to s ≡ true → (from ≤ℤ s) × (s ≤ℤ to)
+in-range : (from to s : ℤ) → is_between from to s ≡ true → (from ≤ℤ s) × (s ≤ℤ to)
 in-range from to s pass =
     let parts = and_parts (not (int_lt s from)) (not (int_lt to s)) pass in
     (int_lt-false s from (not-true (int_lt s from) parts.0), int_lt-false to s (not-true (int_lt to s) parts.1))
 
-range-in : (from to s : ℤ) → from ≤ℤ s → s ≤ℤ to → is_in from to s ≡ true
+range-in : (from to s : ℤ) → from ≤ℤ s → s ≤ℤ to → is_between from to s ≡ true
 range-in from to s low high = ap (λ b. not b && not (int_lt to s)) (int_lt_no s from low) ∙ ap not (int_lt_no to s high)
 
-wider : (from to low s : ℤ) → low ≤ℤ from → is_in from to s ≡ true → is_in low to s ≡ true
+wider : (from to low s : ℤ) → low ≤ℤ from → is_between from to s ≡ true → is_between low to s ≡ true
 wider from to low s early pass = let range = in-range from to s pass in range-in low to s (omega (arith, ints, early, range.0)) range.1
 
 -- an element in the wider range
-at-within : (low to s : ℤ) (es : List Element) → is_in low to s ≡ true → element_at s (passing (is_in low to) es) ≡ element_at s es
-at-within low to s es pass = at-passing (is_in low to) s es ∙ ap (λ b. cond b (element_at s es) None) pass
+at-within : (low to s : ℤ) (es : List Element) → is_between low to s ≡ true → element_at s (passing (is_between low to) es) ≡ element_at s es
+at-within low to s es pass = at-passing (is_between low to) s es ∙ ap (λ b. cond b (element_at s es) None) pass
 
 -- an on start from the origin on
 start-late : (grid : GridPlan) (s : ℤ) → IsStartOf grid s → grid.origin ≤ℤ s
@@ -137,11 +137,11 @@ abbrev AreStarts : GridPlan → List Element → Type 0
 AreStarts grid es = (stamp : ℤ) (row : Row) → element_at stamp es ≡ Some row → IsStartOf grid stamp
 
 -- the row that a series on a grid has at a stamp in the range
-row-within : (grid : GridPlan) (es : List Element) (from to low s : ℤ) → IsLaid grid.calendar → IsStamp from → AreStarts grid es → IsEnough (Regular grid) from low → is_in from to s ≡ true
-    → row_around grid (passing (is_in low to) es) s ≡ row_around grid es s
+row-within : (grid : GridPlan) (es : List Element) (from to low s : ℤ) → IsLaid grid.calendar → IsStamp from → AreStarts grid es → IsEnough (Regular grid) from low → is_between from to s ≡ true
+    → row_around grid (passing (is_between low to) es) s ≡ row_around grid es s
 row-within grid es from to low s laid stamp starts enough pass = by (held_start grid.calendar s) refl where
-  missing : (t : ℤ) → held_start grid.calendar s ≡ Some t → t <ℤ low → (o : Option Row) → element_at t es ≡ o → element_at t (passing (is_in low to) es) ≡ o
-  missing t held lt None none = at-passing (is_in low to) t es ∙ ap (λ o. cond (is_in low to t) o None) none ∙ same (is_in low to t) where
+  missing : (t : ℤ) → held_start grid.calendar s ≡ Some t → t <ℤ low → (o : Option Row) → element_at t es ≡ o → element_at t (passing (is_between low to) es) ≡ o
+  missing t held lt None none = at-passing (is_between low to) t es ∙ ap (λ o. cond (is_between low to t) o None) none ∙ same (is_between low to t) where
     same : (b : Bool) → ◌≡◌ {A = Option Row} (cond b None None) None
     same true = refl
     same false = refl
@@ -152,7 +152,7 @@ row-within grid es from to low s laid stamp starts enough pass = by (held_start 
       let late = enough.held t here (start-late grid t (starts t row there)) in
       absurd (omega (arith, ints, late, lt))
 
-  by : (o : Option ℤ) → held_start grid.calendar s ≡ o → option_and_then (λ t. element_at t (passing (is_in low to) es)) o ≡ option_and_then (λ t. element_at t es) o
+  by : (o : Option ℤ) → held_start grid.calendar s ≡ o → option_and_then (λ t. element_at t (passing (is_between low to) es)) o ≡ option_and_then (λ t. element_at t es) o
   by None held = refl
   by (Some t) held = by_lt_z t low
       (λ lt. missing t held lt (element_at t es) refl)
@@ -166,12 +166,12 @@ row-within grid es from to low s laid stamp starts enough pass = by (held_start 
 there-within : (junction : Junction) (a b : Side) (from to low other : ℤ) → low ≤ℤ from → other ≤ℤ from
     → joined_there junction (side_within low to a) (side_within other to b) from to ≡ joined_there junction a b from to
 there-within junction a b from to low other first second =
-    let r = is_in from to in
-    let x = passing (is_in low to) a.elements in
-    let y = passing (is_in other to) b.elements in
+    let r = is_between from to in
+    let x = passing (is_between low to) a.elements in
+    let y = passing (is_between other to) b.elements in
     ap within_rows (
     ap (filter_map (λ s. joined_at junction a b s (element_at s x) (element_at s y)))
-    (same-stamps (is_in low to) (is_in other to) from to a.elements b.elements (λ s pass. wider from to low s first pass) (λ s pass. wider from to other s second pass))
+    (same-stamps (is_between low to) (is_between other to) from to a.elements b.elements (λ s pass. wider from to low s first pass) (λ s pass. wider from to other s second pass))
     ∙ same-kept (λ s. joined_at junction a b s (element_at s x) (element_at s y)) (λ s. joined_at junction a b s (element_at s a.elements) (element_at s b.elements)) r
     (merged_stamps a.elements b.elements)
     (λ s pass. ap (λ o. joined_at junction a b s o (element_at s y)) (at-within low to s a.elements (wider from to low s first pass))
@@ -183,9 +183,9 @@ on-within : (junction : Junction) (a b : Side) (g h : GridPlan) (from to low oth
     → joined_on junction (side_within low to a) g (side_within other to b) h from to grid ≡ joined_on junction a g b h from to grid
 on-within junction a b g h from to low other stamp g_laid h_laid a_starts b_starts first second (Err why) = refl
 on-within junction a b g h from to low other stamp g_laid h_laid a_starts b_starts first second (Ok grid) =
-    let x = passing (is_in low to) a.elements in
-    let y = passing (is_in other to) b.elements in
-    ap within_rows (same-kept (λ s. joined_at junction a b s (row_around g x s) (row_around h y s)) (λ s. joined_at junction a b s (row_around g a.elements s) (row_around h b.elements s)) (is_in from to)
+    let x = passing (is_between low to) a.elements in
+    let y = passing (is_between other to) b.elements in
+    ap within_rows (same-kept (λ s. joined_at junction a b s (row_around g x s) (row_around h y s)) (λ s. joined_at junction a b s (row_around g a.elements s) (row_around h b.elements s)) (is_between from to)
     (on_starts (every_start g.calendar h.calendar grid))
     (λ s pass. ap (λ o. joined_at junction a b s o (row_around h y s)) (row-within g a.elements from to low s g_laid stamp a_starts first pass)
     ∙ ap (λ o. joined_at junction a b s (row_around g a.elements s) o) (row-within h b.elements from to other s h_laid stamp b_starts second pass)))
@@ -206,17 +206,17 @@ joined-within junction a b from to low other stamp a_laid b_laid a_series b_seri
 -- the elements of a series in a range are those of a series
 pub series-within : (s : Side) (low to : ℤ) → IsSeries s → IsSeries (side_within low to s)
 series-within s low to series = record {
-  rising = risen-rising (passing (is_in low to) s.elements) (risen-kept (λ e. e.0) (λ e. is_in low to e.0) s.elements (rising-risen s.elements series.rising));
+  rising = risen-rising (passing (is_between low to) s.elements) (risen-kept (λ e. e.0) (λ e. is_between low to e.0) s.elements (rising-risen s.elements series.rising));
   on_starts = by s.shape series.on_starts;
 }
   where
-    there : (stamp : ℤ) (row : Row) → element_at stamp (passing (is_in low to) s.elements) ≡ Some row → element_at stamp s.elements ≡ Some row
-    there stamp row found = go (is_in low to stamp) (sym (at-passing (is_in low to) stamp s.elements) ∙ found) where
+    there : (stamp : ℤ) (row : Row) → element_at stamp (passing (is_between low to) s.elements) ≡ Some row → element_at stamp s.elements ≡ Some row
+    there stamp row found = go (is_between low to stamp) (sym (at-passing (is_between low to) stamp s.elements) ∙ found) where
       go : (b : Bool) → cond b (element_at stamp s.elements) None ≡ Some row → element_at stamp s.elements ≡ Some row
       go true is = is
       go false is = absurd (cc)
 
-    by : (shape : Shape) → AreOnStarts shape s.elements → AreOnStarts shape (passing (is_in low to) s.elements)
+    by : (shape : Shape) → AreOnStarts shape s.elements → AreOnStarts shape (passing (is_between low to) s.elements)
     by Irregular starts = tt
     by (Regular grid) starts = λ stamp row found. starts stamp row (there stamp row found)
 

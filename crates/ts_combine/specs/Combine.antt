@@ -1,9 +1,10 @@
 -- Two series as one: rows with the columns of both, at the stamps where one or both have an element.
-use Rattle.std.specs.Prelude.{ℕ, ℤ, Bool, true, ◌&&◌, ◌||◌, not, int_lt, if◌then◌else◌, Option, Some, None, is_some}
+use Rattle.std.specs.Prelude.{ℕ, ℤ, Bool, true, ◌&&◌, ◌||◌, if◌then◌else◌, Option, Some, None, is_some}
 use Rattle.std.specs.Prelude.{option_and_then, Result, Ok, Err, List, [], ◌∷◌, ◌++◌, map, filter, filter_map, replicate}
 use Rattle.std.specs.FinMap.{FinMap, entries, from_entries}
 use Rattle.std.specs.Ordering.{int_cmp}
 use Rattle.std.specs.Int.{int_max}
+use Rattle.ts_base.specs.Moment.{is_between}
 use Rattle.ts_base.specs.declared.refusal.Refusal.{Refusal}
 use Rattle.ts_pattern.specs.declared.junction.Junction.{Junction}
 use Rattle.ts_pattern.specs.declared.junction.Junction.TheVariants.{And, Or}
@@ -34,13 +35,9 @@ by_stamp es = from_entries es
 abbrev pub merged_stamps : List Element → List Element → List ℤ
 merged_stamps es fs = map (λ e. e.0) (entries (by_stamp (es ++ fs)))
 
--- a stamp stands from one to another, both included
-abbrev pub is_in : ℤ → ℤ → ℤ → Bool
-is_in from to s = not (int_lt s from) && not (int_lt to s)
-
--- those that do
+-- the stamps from one to another, both included
 abbrev pub stamps_between : ℤ → ℤ → List ℤ → List ℤ
-stamps_between from to stamps = filter (is_in from to) stamps
+stamps_between from to stamps = filter (is_between from to) stamps
 
 -- the calendar that is on at every start of the grid that two have in common, from the later of their starts on
 abbrev pub every_start : CalendarPlan → CalendarPlan → CommonGrid → CalendarPlan

@@ -12,7 +12,8 @@ use Rattle.ts_offset.specs.Grid.{GridPlan, held_start, stamp_of}
 use Rattle.ts_offset.specs.declared.shape.Shape.{Shape}
 use Rattle.ts_offset.specs.declared.shape.Shape.TheVariants.{Irregular, Regular}
 use Rattle.ts_combine.specs.declared.side.Side as given
-use Rattle.ts_combine.specs.Combine.{Side, is_in}
+use Rattle.ts_combine.specs.Combine.{Side}
+use Rattle.ts_base.specs.Moment.{is_between}
 
 -- what a series that is handed in means
 abbrev pub side_of : given.Side → Side
@@ -63,4 +64,4 @@ pub record IsEnough (shape : Shape) (from low : ℤ) : Type 0 where
 
 -- a series with its elements from one stamp to another alone, both included
 abbrev pub side_within : ℤ → ℤ → Side → Side
-side_within from to s = record s { elements = filter (λ e. is_in from to e.0) s.elements }
+side_within from to s = record s { elements = filter (λ e. is_between from to e.0) s.elements }

@@ -1,6 +1,7 @@
 // Two series at the stamps of their elements.
 ghost use Rattle.std.specs.Prelude.{◌≡◌, ◌<◌, ◌^◌, ◌&&◌, ◌⊎◌, Some, IfOk, IsSome};
-ghost use Rattle.ts_combine.specs.Combine.{is_in, is_kept, rows_there};
+ghost use Rattle.ts_combine.specs.Combine.{is_kept, rows_there};
+ghost use Rattle.ts_base.specs.Moment.{is_between};
 ghost use Rattle.ts_combine.specs.Series.{side_of};
 ghost use Rattle.ts_combine.specs.Call.{GathersJoined};
 ghost use Rattle.ts_combine.specs.Merge.{stamp_at, IsTaken, behind};
@@ -102,14 +103,14 @@ fn earlier(a: Stamp, i: usize, b: Stamp, j: usize) -> Joined
 
 // Whether a stamp stands from one to another, both included.
 fn is_between(stamp: Stamp, from: Stamp, to: Stamp) -> bool
-    ensures { result ≡ is_in from to stamp }
+    ensures { result ≡ is_between from to stamp }
 {
     stamp.units() >= from.units() && stamp.units() <= to.units()
 }
 
 // Whether a row is kept of those from one stamp to another.
 fn belongs(junction: Junction, row: &Joined, from: Stamp, to: Stamp) -> bool
-    ensures { result ≡ (is_in from to row.now.stamp && is_kept junction row.now.first row.now.second) }
+    ensures { result ≡ (is_between from to row.now.stamp && is_kept junction row.now.first row.now.second) }
 {
     is_between(row.stamp, from, to) && is_kept(junction, row.first, row.second)
 }

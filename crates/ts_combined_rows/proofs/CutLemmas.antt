@@ -29,7 +29,8 @@ use Rattle.ts_offset.specs.declared.shape.Shape.{Shape}
 use Rattle.ts_offset.specs.declared.shape.Shape.TheVariants.{Irregular, Regular}
 use Rattle.ts_pattern.specs.declared.junction.Junction.{Junction}
 use Rattle.ts_combine.specs.Series.{IsLaidOut}
-use Rattle.ts_combine.specs.Combine.{Side, by_stamp, is_in, merged_stamps, every_start, row_around, joined_at, joined_of, joined_on, joined_there, joined}
+use Rattle.ts_combine.specs.Combine.{Side, by_stamp, merged_stamps, every_start, row_around, joined_at, joined_of, joined_on, joined_there, joined}
+use Rattle.ts_base.specs.Moment.{is_between}
 use Rattle.ts_irregular.specs.Edit.{element_at}
 use Rattle.ts_combined_rows.specs.Combining.{HaveGrid}
 use Rattle.ts_combine.proofs.RisingLemmas.{AreAbove, AreRisenBy, AreRisen, starts-risen}
@@ -39,18 +40,18 @@ and_none : (b : Bool) → b && false ≡ false
 and_none true = refl
 and_none false = refl
 
-too_early : (from to s : ℤ) → s <ℤ from → is_in from to s ≡ false
+too_early : (from to s : ℤ) → s <ℤ from → is_between from to s ≡ false
 too_early from to s lt = ap (λ (b : Bool). not b && not (int_lt to s)) (int_lt_yes s from lt)
 
-too_late : (from to s : ℤ) → to <ℤ s → is_in from to s ≡ false
+too_late : (from to s : ℤ) → to <ℤ s → is_between from to s ≡ false
 too_late from to s lt = ap (λ (b : Bool). not (int_lt s from) && not b) (int_lt_yes to s lt) ∙ and_none (not (int_lt s from))
 
 -- none does in one that ends before it begins
-pub none_between : (from to : ℤ) → to <ℤ from → (ts : List ℤ) → filter (is_in from to) ts ≡ []
+pub none_between : (from to : ℤ) → to <ℤ from → (ts : List ℤ) → filter (is_between from to) ts ≡ []
 none_between from to less [] = refl
 none_between from to less (t ∷ ts) =
-    let out : is_in from to t ≡ false = by_lt_z t from (λ lt. too_early from to t lt) (λ ge. too_late from to t (omega (arith, ints, less, ge))) in
-    ap (λ (b : Bool). cond b (t ∷ filter (is_in from to) ts) (filter (is_in from to) ts)) out ∙ none_between from to less ts
+    let out : is_between from to t ≡ false = by_lt_z t from (λ lt. too_early from to t lt) (λ ge. too_late from to t (omega (arith, ints, less, ge))) in
+    ap (λ (b : Bool). cond b (t ∷ filter (is_between from to) ts) (filter (is_between from to) ts)) out ∙ none_between from to less ts
 
 -- of stamps that rise, those in a range are those up to one in it and those behind it
 module _ (from mid to : ℤ) (low : from ≤ℤ (mid +ℤ pos 1)) (high : mid ≤ℤ to) where
@@ -61,43 +62,43 @@ module _ (from mid to : ℤ) (low : from ≤ℤ (mid +ℤ pos 1)) (high : mid �
   above_more s [] lt above = tt
   above_more s (t ∷ ts) lt above = let up = above.0 in (omega (arith, ints, lt, up), above_more s ts lt above.1)
 
-  none_up_to : (ts : List ℤ) → AreAbove (λ t. t) mid ts → filter (is_in from mid) ts ≡ []
+  none_up_to : (ts : List ℤ) → AreAbove (λ t. t) mid ts → filter (is_between from mid) ts ≡ []
   none_up_to [] above = refl
   none_up_to (t ∷ ts) above =
-      ap (λ (b : Bool). cond b (t ∷ filter (is_in from mid) ts) (filter (is_in from mid) ts)) (too_late from mid t above.0) ∙ none_up_to ts above.1
+      ap (λ (b : Bool). cond b (t ∷ filter (is_between from mid) ts) (filter (is_between from mid) ts)) (too_late from mid t above.0) ∙ none_up_to ts above.1
 
-  alike : (t : ℤ) → mid <ℤ t → is_in from to t ≡ is_in next to t
+  alike : (t : ℤ) → mid <ℤ t → is_between from to t ≡ is_between next to t
   alike t lt = ap (λ (b : Bool). not b && not (int_lt to t)) (int_lt_no t from (omega (arith, ints, lt, low)) ∙ sym (int_lt_no t next (omega (arith, ints, lt))))
 
-  all_behind : (ts : List ℤ) → AreAbove (λ t. t) mid ts → filter (is_in from to) ts ≡ filter (is_in next to) ts
+  all_behind : (ts : List ℤ) → AreAbove (λ t. t) mid ts → filter (is_between from to) ts ≡ filter (is_between next to) ts
   all_behind [] above = refl
   all_behind (t ∷ ts) above =
-      ap (λ (b : Bool). cond b (t ∷ filter (is_in from to) ts) (filter (is_in from to) ts)) (alike t above.0)
-      ∙ ap (λ (l : List ℤ). cond (is_in next to t) (t ∷ l) l) (all_behind ts above.1)
+      ap (λ (b : Bool). cond b (t ∷ filter (is_between from to) ts) (filter (is_between from to) ts)) (alike t above.0)
+      ∙ ap (λ (l : List ℤ). cond (is_between next to t) (t ∷ l) l) (all_behind ts above.1)
 
   pull : (b : Bool) (t : ℤ) (xs ys : List ℤ) → cond b (t ∷ xs ++ ys) (xs ++ ys) ≡ cond b (t ∷ xs) xs ++ ys
   pull true t xs ys = refl
   pull false t xs ys = refl
 
-  one_before : (t : ℤ) (ts : List ℤ) → t ≤ℤ mid → filter (is_in from to) ts ≡ filter (is_in from mid) ts ++ filter (is_in next to) ts
-      → filter (is_in from to) (t ∷ ts) ≡ filter (is_in from mid) (t ∷ ts) ++ filter (is_in next to) (t ∷ ts)
+  one_before : (t : ℤ) (ts : List ℤ) → t ≤ℤ mid → filter (is_between from to) ts ≡ filter (is_between from mid) ts ++ filter (is_between next to) ts
+      → filter (is_between from to) (t ∷ ts) ≡ filter (is_between from mid) (t ∷ ts) ++ filter (is_between next to) (t ∷ ts)
   one_before t ts le rest =
-      let here : is_in from to t ≡ is_in from mid t =
+      let here : is_between from to t ≡ is_between from mid t =
       ap (λ (b : Bool). not (int_lt t from) && not b) (int_lt_no to t (omega (arith, ints, le, high)) ∙ sym (int_lt_no mid t le)) in
       let out = too_early next to t (omega (arith, ints, le)) in
-      ap (λ (b : Bool). cond b (t ∷ filter (is_in from to) ts) (filter (is_in from to) ts)) here
-      ∙ ap (λ (l : List ℤ). cond (is_in from mid t) (t ∷ l) l) rest
-      ∙ pull (is_in from mid t) t (filter (is_in from mid) ts) (filter (is_in next to) ts)
-      ∙ ap (λ (l : List ℤ). cond (is_in from mid t) (t ∷ filter (is_in from mid) ts) (filter (is_in from mid) ts) ++ l)
-      (sym (ap (λ (b : Bool). cond b (t ∷ filter (is_in next to) ts) (filter (is_in next to) ts)) out))
+      ap (λ (b : Bool). cond b (t ∷ filter (is_between from to) ts) (filter (is_between from to) ts)) here
+      ∙ ap (λ (l : List ℤ). cond (is_between from mid t) (t ∷ l) l) rest
+      ∙ pull (is_between from mid t) t (filter (is_between from mid) ts) (filter (is_between next to) ts)
+      ∙ ap (λ (l : List ℤ). cond (is_between from mid t) (t ∷ filter (is_between from mid) ts) (filter (is_between from mid) ts) ++ l)
+      (sym (ap (λ (b : Bool). cond b (t ∷ filter (is_between next to) ts) (filter (is_between next to) ts)) out))
 
-  pub cut_stamps : (ts : List ℤ) → AreRisen ts → filter (is_in from to) ts ≡ filter (is_in from mid) ts ++ filter (is_in next to) ts
+  pub cut_stamps : (ts : List ℤ) → AreRisen ts → filter (is_between from to) ts ≡ filter (is_between from mid) ts ++ filter (is_between next to) ts
   cut_stamps [] risen = refl
   cut_stamps (t ∷ ts) risen =
       by_lt_z mid t
       (λ lt.
       let above : AreAbove (λ t. t) mid (t ∷ ts) = (lt, above_more t ts lt risen.0) in
-      all_behind (t ∷ ts) above ∙ ap (λ (l : List ℤ). l ++ filter (is_in next to) (t ∷ ts)) (sym (none_up_to (t ∷ ts) above)))
+      all_behind (t ∷ ts) above ∙ ap (λ (l : List ℤ). l ++ filter (is_between next to) (t ∷ ts)) (sym (none_up_to (t ∷ ts) above)))
       (λ ge. one_before t ts ge (cut_stamps ts risen.1))
 
 -- the stamps of the elements of two lists rise, and are no more than these
@@ -181,15 +182,15 @@ pub record AreCut (junction : Junction) (a b : Side) : Type 0 where
 
 -- those of stamps that rise
 by_stamps : (junction : Junction) (a b : Side) (f : ℤ → Option Element) (ts : List ℤ) → AreRisen ts → length ts ≤ length a.elements + length b.elements + near_count
-    → ((from to : ℤ) → joined junction a b from to ≡ within_rows (filter_map f (filter (is_in from to) ts))) → AreCut junction a b
+    → ((from to : ℤ) → joined junction a b from to ≡ within_rows (filter_map f (filter (is_between from to) ts))) → AreCut junction a b
 by_stamps junction a b f ts risen few are = record {
-  rows = λ from to. filter_map f (filter (is_in from to) ts);
+  rows = λ from to. filter_map f (filter (is_between from to) ts);
   are = are;
-  cut = λ from mid to low high. ap (filter_map f) (cut_stamps from mid to low high ts risen) ∙ filter_map-append f (filter (is_in from mid) ts) (filter (is_in (mid +ℤ pos 1) to) ts);
+  cut = λ from mid to low high. ap (filter_map f) (cut_stamps from mid to low high ts risen) ∙ filter_map-append f (filter (is_between from mid) ts) (filter (is_between (mid +ℤ pos 1) to) ts);
   none = λ from to less. ap (filter_map f) (none_between from to less ts);
   few = λ from to.
-      let given = few_given f (filter (is_in from to) ts) in
-      let passed = few_passed (is_in from to) ts in
+      let given = few_given f (filter (is_between from to) ts) in
+      let passed = few_passed (is_between from to) ts in
       omega (arith, few, given, passed);
 }
 

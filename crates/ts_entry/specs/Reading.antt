@@ -1,8 +1,9 @@
 -- What is read of a series: its elements that aren't hidden, and on a grid an entry without an element at each on start
 -- between them and the origin.
-use Rattle.std.specs.Prelude.{ℕ, ◌-◌, ℤ, pos, int_lt, unsigned_abs, Bool, false, not, ◌&&◌, if◌then◌else◌}
+use Rattle.std.specs.Prelude.{ℕ, ◌-◌, ℤ, pos, int_lt, unsigned_abs, Bool, false, not, if◌then◌else◌}
 use Rattle.std.specs.Prelude.{Option, Some, None, option_to_list, List, map, filter, take, drop}
 use Rattle.std.specs.Prelude.{length, slice_get}
+use Rattle.ts_base.specs.Moment.{is_between}
 use Rattle.ts_row.specs.Element.{Element, seen}
 use Rattle.ts_irregular.specs.Edit.{element_at, last_of}
 use Rattle.ts_offset.specs.Grid.{GridPlan, starts_of}
@@ -34,7 +35,7 @@ reading shape es = entries_of shape (seen es)
 
 -- the entries from one stamp to another, both included
 abbrev pub clipped : ℤ → ℤ → List Entry → List Entry
-clipped from to entries = filter (λ e. not (int_lt e.0 from) && not (int_lt to e.0)) entries
+clipped from to entries = filter (λ e. is_between from to e.0) entries
 
 -- the last so many of a list, or all where there are fewer
 abbrev pub last_ones : {A : Type 0} → ℕ → List A → List A

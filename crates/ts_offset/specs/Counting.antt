@@ -3,6 +3,7 @@
 use Rattle.std.specs.Prelude.{◌≡◌, ℕ, ◌-◌, ◌&&◌, not, if◌then◌else◌, int_lt, ℤ, pos, neg_ℤ, Option, List}
 use Rattle.std.specs.Prelude.{length, filter, slice_get, Result}
 use Rattle.ts_base.specs.declared.refusal.Refusal.{Refusal}
+use Rattle.ts_base.specs.Moment.{is_between}
 use Rattle.ts_base.specs.Answer.{within_rows}
 use Rattle.ts_calendar.specs.Plan.{CalendarPlan}
 use Rattle.ts_offset.specs.Walk.{on_starts}
@@ -26,7 +27,7 @@ cal_stamp c t n = slice_get (starts_later c t) (n - 1)
 
 -- the on starts from b to e
 abbrev pub starts_between : CalendarPlan → ℤ → ℤ → List ℤ
-starts_between c b e = filter (λ s. not (int_lt s b) && not (int_lt e s)) (on_starts c)
+starts_between c b e = filter (is_between b e) (on_starts c)
 
 -- the on starts from b to e, or how many they are
 abbrev pub cal_range : CalendarPlan → ℤ → ℤ → Result (List ℤ) Refusal

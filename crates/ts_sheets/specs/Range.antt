@@ -1,10 +1,11 @@
 -- The elements between two stamps, both included, and the others.
-use Rattle.std.specs.Prelude.{ℤ, Bool, int_lt, not, ◌&&◌, List, filter}
+use Rattle.std.specs.Prelude.{ℤ, Bool, not, List, filter}
+use Rattle.ts_base.specs.Moment.{is_between}
 use Rattle.ts_row.specs.Element.{Element}
 
 -- whether an element stands from one stamp to another, both included; from a later stamp to an earlier one none does
 abbrev pub is_within : ℤ → ℤ → Element → Bool
-is_within from to e = not (int_lt e.0 from) && not (int_lt to e.0)
+is_within from to e = is_between from to e.0
 
 -- the elements that do, hidden or not
 abbrev pub within_range : ℤ → ℤ → List Element → List Element
