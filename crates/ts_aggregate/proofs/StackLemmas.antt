@@ -15,7 +15,8 @@ use Rattle.ts_series.proofs.ChainLemmas.{counted}
 use Rattle.ts_offset.specs.declared.shape.Shape.{Shape}
 use Rattle.ts_page.specs.declared.page.Page.{Page}
 use Rattle.ts_offset.specs.declared.shape.Shape.TheVariants.{Irregular, Regular}
-use Rattle.ts_clip.specs.Series.{IsLaidOut, HaveOnPlaces, ArePagesOf}
+use Rattle.ts_clip.specs.Series.{HaveOnPlaces, ArePagesOf}
+use Rattle.ts_offset.specs.Shape.{IsLaidOut}
 use Rattle.ts_expr.specs.Binding.{Binding}
 use Rattle.ts_expr.specs.Fold.{folded_row}
 use Rattle.ts_aggregate.specs.declared.series_pages.Stack.{Stack}

@@ -30,7 +30,8 @@ use Rattle.ts_offset.proofs.ListedLemmas.{start-listed}
 use Rattle.ts_sheets.specs.Stamped.{stamped, HaveStarts}
 use Rattle.ts_regular_edits.proofs.StampLemmas.{some_start, stamped_cons}
 use Rattle.ts_sheets.proofs.StartLemmas.{stamps_rise}
-use Rattle.ts_clip.specs.Series.{IsLaidOut, HaveElements}
+use Rattle.ts_clip.specs.Series.{HaveElements}
+use Rattle.ts_offset.specs.Shape.{IsLaidOut}
 use Rattle.ts_aggregate.specs.Groups.{AreOrdered, AreGiven}
 use Rattle.ts_aggregate.proofs.GroupLemmas.{IsOneOf}
 use Rattle.ts_aggregate.proofs.StartLemmas.{at_one}

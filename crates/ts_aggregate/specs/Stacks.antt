@@ -6,7 +6,8 @@ use Rattle.ts_row.specs.Row.{Row}
 use Rattle.ts_expr.specs.Binding.{Binding}
 use Rattle.ts_expr.specs.Fold.{folded_row}
 use Rattle.ts_sheets.specs.Range.{within_range}
-use Rattle.ts_clip.specs.Series.{IsLaidOut, HaveOnPlaces, ArePagesOf}
+use Rattle.ts_clip.specs.Series.{HaveOnPlaces, ArePagesOf}
+use Rattle.ts_offset.specs.Shape.{IsLaidOut}
 use Rattle.ts_space.specs.Place.{count_of}
 use Rattle.ts_aggregate.specs.declared.series_pages.Stack.{Stack}
 

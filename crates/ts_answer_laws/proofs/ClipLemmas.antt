@@ -26,7 +26,8 @@ use Rattle.ts_model.specs.Catalogue.{Catalogue, Series, columns_of, shape_of}
 use Rattle.ts_answer.specs.Answer.{Answered, Tried, ◌>>=◌, outcome, carried_out, wanted, known, a_reading, clip_series, count_clip}
 use Rattle.ts_answer.specs.Reply.{count_line, entries_text}
 use Rattle.ts_answer.proofs.CallerLemmas.{on_ok, wanted-there}
-use Rattle.ts_answer_laws.specs.ReadingLaws.{IsSeenAt, IsReached, CanStand, HasLaidCalendar, AreEntriesOf, ListsEntries, CountsAreOfClips}
+use Rattle.ts_answer_laws.specs.ReadingLaws.{IsSeenAt, IsReached, CanStand, AreEntriesOf, ListsEntries, CountsAreOfClips}
+use Rattle.ts_offset.specs.Shape.{IsLaidOut}
 use Rattle.ts_answer_laws.proofs.RowLemmas.{Among, Rise, among_from, among_contains, among_place, place_among, among_filter, among_filtered, among_map, among_mapped, pairs_map, between_true, between_yes, not_false}
 use Rattle.ts_answer_laws.proofs.SeenLemmas.{seen_later, seen_there, there_seen, among_found, found_among, reached, reached_by}
 use Rattle.ts_answer_laws.proofs.CameLemmas.{came, same_answer}
@@ -132,7 +133,7 @@ module _ (s : Series) (from to : ℤ) where
           subst (IsReached s) (sym (ap (λ (f : Entry). f.0) one.2)) (reached_by s one.0 kept.1);
     }
 
-entries_clipped : (s : Series) (shape : Shape) (from to : ℤ) → HasLaidCalendar shape → AreEntriesOf s shape from to (clipped from to (reading shape (entries s.elements)))
+entries_clipped : (s : Series) (shape : Shape) (from to : ℤ) → IsLaidOut shape → AreEntriesOf s shape from to (clipped from to (reading shape (entries s.elements)))
 entries_clipped s shapes.Irregular from to laid = any_entries s from to
 entries_clipped s (shapes.Regular g) from to laid = grid_entries s from to g laid
 
@@ -157,7 +158,7 @@ unfolding a_reading
 reading_there cat s shape is = on_ok (known (shape_of cat s.kind)) shape _ (ap known is)
 
 pub clip_lists : (cat : Catalogue) (answered : Answered) (key : List ℕ) (from to : ℤ) (s : Series) (shape : Shape) → get cat.series key ≡ Some s
-    → shape_of cat s.kind ≡ Some shape → HasLaidCalendar shape → outcome (Ok (commands.Clip key from to)) cat ≡ Ok answered → ListsEntries s shape from to cat answered
+    → shape_of cat s.kind ≡ Some shape → IsLaidOut shape → outcome (Ok (commands.Clip key from to)) cat ≡ Ok answered → ListsEntries s shape from to cat answered
 unfolding outcome carried_out clip_series
 clip_lists cat answered key from to s shape there shaped laid is =
     let named = sym (on_ok (wanted key cat.series) s _ (wanted-there key cat.series s there)) ∙ is in

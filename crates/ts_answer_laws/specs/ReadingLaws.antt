@@ -13,6 +13,7 @@ use Rattle.ts_calendar.specs.Intervals.{IsLaid}
 use Rattle.ts_command.specs.declared.command.Command.TheVariants as commands
 use Rattle.ts_offset.specs.Walk.{IsOnStart}
 use Rattle.ts_offset.specs.Grid.{GridPlan, stamp_of}
+use Rattle.ts_offset.specs.Shape.{IsLaidOut}
 use Rattle.ts_offset.specs.declared.shape.Shape.{Shape}
 use Rattle.ts_offset.specs.declared.shape.Shape.TheVariants as shapes
 use Rattle.ts_entry.specs.Entry.{Entry}
@@ -36,11 +37,6 @@ pub record IsReached (s : Series) (stamp : ℤ) : Type 0 where
 abbrev pub CanStand : Shape → ℤ → Type 0
 CanStand shapes.Irregular stamp = Unit {0}
 CanStand (shapes.Regular grid) stamp = IsOnStart grid.calendar stamp × (grid.origin ≤ℤ stamp)
-
--- the calendar of a grid is laid out on stamps
-abbrev pub HasLaidCalendar : Shape → Type 0
-HasLaidCalendar shapes.Irregular = Unit {0}
-HasLaidCalendar (shapes.Regular grid) = IsLaid grid.calendar
 
 -- the entries that have no element: none in an irregular series; on a grid there is an entry at each on start from the
 -- origin up to an element that is seen
@@ -75,7 +71,7 @@ abbrev pub ClipsListEntries : Type 0
 ClipsListEntries =
     (cat : Catalogue) (answered : Answered) (key : List ℕ) (from to : ℤ) (s : Series) (shape : Shape)
     → get cat.series key ≡ Some s
-    → shape_of cat s.kind ≡ Some shape → HasLaidCalendar shape → outcome (Ok (commands.Clip key from to)) cat
+    → shape_of cat s.kind ≡ Some shape → IsLaidOut shape → outcome (Ok (commands.Clip key from to)) cat
     ≡ Ok answered
     → ListsEntries s shape from to cat answered
 

@@ -55,7 +55,8 @@ use Rattle.ts_answer.specs.Refusals.{present}
 use Rattle.ts_answer.specs.Rolling.{roll_create, roll_put, roll_clip, roll_drop, without_windows, with_window}
 use Rattle.ts_rolling.specs.Keys.{is_set, window_key, control_key}
 use Rattle.ts_rolling.specs.Sets.{live}
-use Rattle.ts_answer_laws.specs.ReadingLaws.{CanStand, HasLaidCalendar}
+use Rattle.ts_answer_laws.specs.ReadingLaws.{CanStand}
+use Rattle.ts_offset.specs.Shape.{IsLaidOut}
 use Rattle.ts_answer_laws.specs.SeriesLaws.{OriginsAreOnStarts}
 use Rattle.ts_catalogue_laws.specs.Catalogue.{IsCatalogue}
 use Rattle.ts_catalogue_laws.specs.Commands.{NamesStamps}
@@ -218,7 +219,7 @@ grid_stands grid stamp at laid is = by (held_start grid.calendar stamp) refl is 
   by None held is = absurd (let never : ⊥ = cc in never)
   by (Some start) held is = by_test start (int_lt start grid.origin) held refl is
 
-address_stands : (shape : Shape) (stamp at : ℤ) → HasLaidCalendar shape → IsStamp stamp → addressed shape stamp ≡ Ok at → IsStamp at × CanStand shape at
+address_stands : (shape : Shape) (stamp at : ℤ) → IsLaidOut shape → IsStamp stamp → addressed shape stamp ≡ Ok at → IsStamp at × CanStand shape at
 address_stands shapes.Irregular stamp at laid is given = let same : stamp ≡ at = cc in (subst IsStamp same is, tt)
 address_stands (shapes.Regular grid) stamp at laid is given = grid_stands grid stamp at laid given
 
@@ -259,16 +260,16 @@ module _ (cat : Catalogue) (good : IsCatalogue cat) where
   chained f None b is = absurd (let never : ⊥ = cc in never)
   chained f (Some a) b is = (a, refl, is)
 
-  kind_laid : (kind : SeriesKind) (shape : Shape) → shape_of cat kind ≡ Some shape → HasLaidCalendar shape
-  kind_laid Irregular shape lies = let same : shapes.Irregular ≡ shape = cc in subst HasLaidCalendar same tt
+  kind_laid : (kind : SeriesKind) (shape : Shape) → shape_of cat kind ≡ Some shape → IsLaidOut shape
+  kind_laid Irregular shape lies = let same : shapes.Irregular ≡ shape = cc in subst IsLaidOut same tt
   kind_laid (Regular calendar origin) shape lies =
       let p = mapped (λ (plan : CalendarPlan). shapes.Regular (record { calendar = plan; origin = origin })) (calendar_named cat calendar) shape lies in
       let text = chained (calendar_of cat) (get cat.calendars calendar) p.0 p.1 in
-      subst HasLaidCalendar p.2 (plan_in calendar text.0 p.0 text.1 text.2).laid
+      subst IsLaidOut p.2 (plan_in calendar text.0 p.0 text.1 text.2).laid
 
   -- the series of a key
   module _ (key : List ℕ) (s : Series) (listed : get cat.series key ≡ Some s) where
-    pub shape_laid : HasLaidCalendar (good.series key s listed).shape
+    pub shape_laid : IsLaidOut (good.series key s listed).shape
     shape_laid = let x = good.series key s listed in kind_laid s.kind x.shape x.shape_there
 
     pub stands_at : (stamp at : ℤ) → IsStamp stamp → an_address s stamp cat ≡ Ok at → IsStamp at × CanStand (good.series key s listed).shape at

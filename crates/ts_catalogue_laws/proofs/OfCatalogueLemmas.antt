@@ -15,7 +15,8 @@ use Rattle.ts_answer.specs.Answer.{Answered, Tried, outcome, carried_out, wanted
 use Rattle.ts_answer.specs.Elements.{seen_elements}
 use Rattle.ts_answer.proofs.CallerLemmas.{on_ok, wanted-there}
 use Rattle.ts_answer_laws.specs.Laws.{MadeCalendarsAreValid}
-use Rattle.ts_answer_laws.specs.ReadingLaws.{HasLaidCalendar, ClipsListEntries, NumbersAreOffsets, LagsAreByOffsets, CountedClipsAreParts}
+use Rattle.ts_answer_laws.specs.ReadingLaws.{ClipsListEntries, NumbersAreOffsets, LagsAreByOffsets, CountedClipsAreParts}
+use Rattle.ts_offset.specs.Shape.{IsLaidOut}
 use Rattle.ts_answer_laws.specs.SeriesLaws.{StampsAddressIntervals, OriginsAreOnStarts, SeriesKeepTheirShapes}
 use Rattle.ts_answer_laws.specs.AggregateLaws.{IntervalsAreListed}
 use Rattle.ts_catalogue_laws.specs.Catalogue.{IsCatalogue}
@@ -50,9 +51,9 @@ clips_of law cat answered key from to s good listed is =
 record HasGrid (cat : Catalogue) (s : Series) : Type 0 where
   grid : GridPlan
   is : shape_of cat s.kind ≡ Some (shapes.Regular grid)
-  laid : HasLaidCalendar (shapes.Regular grid)
+  laid : IsLaidOut (shapes.Regular grid)
 
-grid_of : (cat : Catalogue) (s : Series) (shape : Shape) → shape_of cat s.kind ≡ Some shape → HasLaidCalendar shape → ((shape ≡ shapes.Irregular) → ⊥) → HasGrid cat s
+grid_of : (cat : Catalogue) (s : Series) (shape : Shape) → shape_of cat s.kind ≡ Some shape → IsLaidOut shape → ((shape ≡ shapes.Irregular) → ⊥) → HasGrid cat s
 grid_of cat s shapes.Irregular is laid regular = absurd (regular refl)
 grid_of cat s (shapes.Regular grid) is laid regular = record { grid = grid; is = is; laid = laid }
 

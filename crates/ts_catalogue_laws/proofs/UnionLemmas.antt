@@ -41,7 +41,8 @@ use Rattle.ts_answer.specs.Answer.{Answered, outcome, carried_out, wanted, known
 use Rattle.ts_answer.specs.Elements.{a_side, seen_elements}
 use Rattle.ts_answer.specs.Reply.{elements_text}
 use Rattle.ts_answer.proofs.CallerLemmas.{on_ok, wanted-there}
-use Rattle.ts_answer_laws.specs.ReadingLaws.{HasLaidCalendar, OneIsIrregular}
+use Rattle.ts_answer_laws.specs.ReadingLaws.{OneIsIrregular}
+use Rattle.ts_offset.specs.Shape.{IsLaidOut}
 use Rattle.ts_catalogue_laws.specs.Catalogue.{IsCatalogue}
 use Rattle.ts_catalogue_laws.specs.JoinLaws.{SeenAt, SeenAround, IsCommonStart, ListsByStamps, ListsByStarts, SpreadsFirst, SpreadsSecond, BothAreRegular, JoinsListBoth}
 use Rattle.ts_catalogue_laws.proofs.OnceLemmas.{rising}
@@ -288,7 +289,7 @@ record AreGrids (junction : Junction) (cat : Catalogue) (a b : Series) (from to 
   line : answered ≡ (elements_text (columns_of cat a ++ columns_of cat b) rows, cat)
 
 grids_of : (junction : Junction) (cat : Catalogue) (a b : Series) (from to : ℤ) (answered : Answered) (shape other : Shape) (rows : List Element) → BothAreRegular a b
-    → shape_of cat a.kind ≡ Some shape → shape_of cat b.kind ≡ Some other → HasLaidCalendar shape → HasLaidCalendar other
+    → shape_of cat a.kind ≡ Some shape → shape_of cat b.kind ≡ Some other → IsLaidOut shape → IsLaidOut other
     → joined_of junction (a_side a shape cat) (a_side b other cat) shape other from to ≡ Ok rows → answered ≡ (elements_text (columns_of cat a ++ columns_of cat b) rows, cat) → AreGrids junction cat a b from to answered
 grids_of junction cat a b from to answered shapes.Irregular other rows regular one two laid other_laid is line = absurd (regular (inl (is_irregular cat a.kind shapes.Irregular refl one)))
 grids_of junction cat a b from to answered (shapes.Regular g) shapes.Irregular rows regular one two laid other_laid is line = absurd (regular (inr (is_irregular cat b.kind shapes.Irregular refl two)))
@@ -303,8 +304,8 @@ are_grids junction cat answered first second from to a b good one two regular is
     let j = is_joined junction cat answered first second from to a b one two is in
     let x = good.series first a one in
     let y = good.series second b two in
-    let laid = subst HasLaidCalendar (one_of (shape_of cat a.kind) x.shape j.shape x.shape_there j.shape_is) (shape_laid cat good first a one) in
-    let other_laid = subst HasLaidCalendar (one_of (shape_of cat b.kind) y.shape j.other y.shape_there j.other_is) (shape_laid cat good second b two) in
+    let laid = subst IsLaidOut (one_of (shape_of cat a.kind) x.shape j.shape x.shape_there j.shape_is) (shape_laid cat good first a one) in
+    let other_laid = subst IsLaidOut (one_of (shape_of cat b.kind) y.shape j.other y.shape_there j.other_is) (shape_laid cat good second b two) in
     grids_of junction cat a b from to answered j.shape j.other j.rows regular j.shape_is j.other_is laid other_laid j.joined j.line
 
 starts_listed : (junction : Junction) (cat : Catalogue) (a b : Series) (from to : ℤ) (answered : Answered) (j : AreGrids junction cat a b from to answered) → ListsByStarts junction j.g j.h from to a b cat answered

@@ -15,15 +15,9 @@ use Rattle.ts_sheets.specs.Places as chain
 use Rattle.ts_regular.specs.Places.{OffsetPage, AreOn, all_in as all_at}
 use Rattle.ts_regular.specs.Places as regular
 use Rattle.ts_sheets.specs.Stamped.{stamped, HaveStarts}
-use Rattle.ts_calendar.specs.Intervals.{IsLaid}
 use Rattle.ts_offset.specs.Grid.{GridPlan}
 use Rattle.ts_offset.specs.declared.shape.Shape.{Shape}
 use Rattle.ts_offset.specs.declared.shape.Shape.TheVariants.{Irregular, Regular}
-
--- the calendar of a grid is laid out on stamps
-abbrev pub IsLaidOut : Shape → Type 0
-IsLaidOut Irregular = Unit {0}
-IsLaidOut (Regular grid) = IsLaid grid.calendar
 
 -- places such as an edit asks for
 abbrev pub ArePlaces : Shape → List Column → Contents → List Place → Type 0

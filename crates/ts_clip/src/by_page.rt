@@ -3,7 +3,8 @@ ghost use Rattle.std.specs.Prelude.{◌<◌, IfOk};
 ghost use Rattle.ts_space.specs.Directory.{places_of};
 ghost use Rattle.ts_irregular.specs.Call.{Reads};
 ghost use Rattle.ts_sheets.specs.Range.{within_range};
-ghost use Rattle.ts_clip.specs.Series.{IsLaidOut, ArePlaces, IsTold};
+ghost use Rattle.ts_clip.specs.Series.{ArePlaces, IsTold};
+ghost use Rattle.ts_offset.specs.Shape.{IsLaidOut};
 
 use crate::chain_rows::chain_rows;
 use crate::grid_rows::grid_rows;

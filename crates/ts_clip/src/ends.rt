@@ -5,7 +5,8 @@ ghost use Rattle.ts_space.specs.Directory.{places_of};
 ghost use Rattle.ts_irregular.specs.Call.{Reads};
 ghost use Rattle.ts_irregular.specs.Edit.{last_seen};
 ghost use Rattle.ts_entry.specs.Reading.{first_seen};
-ghost use Rattle.ts_clip.specs.Series.{IsLaidOut, ArePlaces, IsTold};
+ghost use Rattle.ts_clip.specs.Series.{ArePlaces, IsTold};
+ghost use Rattle.ts_offset.specs.Shape.{IsLaidOut};
 
 use crate::chain_first::chain_first;
 use crate::grid_ends::{grid_first, grid_last};

@@ -6,7 +6,8 @@ ghost use Rattle.ts_space.specs.Place.{IsRising};
 ghost use Rattle.ts_calendar.specs.Intervals.{IsLaid};
 ghost use Rattle.ts_offset.specs.declared.shape.Shape.TheVariants.{Irregular, Regular};
 ghost use Rattle.ts_sheets.specs.Range.{within_range};
-ghost use Rattle.ts_clip.specs.Series.{IsLaidOut, HaveOnPlaces, HoldRange, ArePagesOf};
+ghost use Rattle.ts_clip.specs.Series.{HaveOnPlaces, HoldRange, ArePagesOf};
+ghost use Rattle.ts_offset.specs.Shape.{IsLaidOut};
 
 use crate::chain_rows::chain_rows_of_pages;
 use crate::grid_offsets::offsets_of;

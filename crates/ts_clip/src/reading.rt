@@ -5,7 +5,8 @@ ghost use Rattle.ts_irregular.specs.Call.{Reads};
 ghost use Rattle.ts_entry.specs.Entry.{AreTaken};
 ghost use Rattle.ts_entry.specs.Reading.{reading, clipped, counted, entry_number};
 ghost use Rattle.ts_base.specs.Answer.{within_rows};
-ghost use Rattle.ts_clip.specs.Series.{IsLaidOut, ArePlaces, IsTold};
+ghost use Rattle.ts_clip.specs.Series.{ArePlaces, IsTold};
+ghost use Rattle.ts_offset.specs.Shape.{IsLaidOut};
 ghost use Rattle.ts_clip.specs.Call.{IsRead, IsShown, AreElementsTaken};
 
 use crate::chain::{chain_clip, chain_clip_count, chain_clip_len, chain_elements, chain_nth};

@@ -5,7 +5,8 @@ ghost use Rattle.ts_space.specs.declared.place.Place.{Place as ThePlace};
 ghost use Rattle.ts_space.specs.Directory.{places_of};
 ghost use Rattle.ts_calendar.specs.Intervals.{IsLaid};
 ghost use Rattle.ts_offset.specs.declared.shape.Shape.{Shape as TheShape};
-ghost use Rattle.ts_clip.specs.Series.{ArePlaces, IsLaidOut};
+ghost use Rattle.ts_clip.specs.Series.{ArePlaces};
+ghost use Rattle.ts_offset.specs.Shape.{IsLaidOut};
 
 use std::alloc::Global;
 use ts_base::{Name, Stamp, StoreFault, Unit};

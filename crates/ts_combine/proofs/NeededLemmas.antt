@@ -29,7 +29,8 @@ use Rattle.ts_offset.specs.declared.shape.Shape.TheVariants.{Irregular, Regular}
 use Rattle.ts_offset.proofs.OwnLemmas.{held-from, from-held}
 use Rattle.ts_pattern.specs.declared.junction.Junction.{Junction}
 use Rattle.ts_combine.specs.Combine.{Side, by_stamp, merged_stamps, stamps_between, every_start, row_around, joined_at, joined_on, joined_there, joined_of, joined}
-use Rattle.ts_combine.specs.Series.{IsStartOf, AreOnStarts, IsSeries, IsLaidOut, IsEnough, side_within}
+use Rattle.ts_combine.specs.Series.{IsStartOf, AreOnStarts, IsSeries, IsEnough, side_within}
+use Rattle.ts_offset.specs.Shape.{IsLaidOut}
 use Rattle.ts_combine.proofs.RisingLemmas.{risen-kept, kept-one, one-at}
 use Rattle.ts_combine.proofs.OrderLemmas.{rising-risen, risen-rising}
 

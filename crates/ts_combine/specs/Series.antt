@@ -7,7 +7,6 @@ use Rattle.ts_row.specs.Element.{Element}
 use Rattle.ts_cells.specs.IrregularPage.{AreRising}
 use Rattle.ts_irregular.specs.Edit.{element_at}
 use Rattle.ts_calendar.specs.Plan.{CalendarPlan}
-use Rattle.ts_calendar.specs.Intervals.{IsLaid}
 use Rattle.ts_offset.specs.Grid.{GridPlan, held_start, stamp_of}
 use Rattle.ts_offset.specs.declared.shape.Shape.{Shape}
 use Rattle.ts_offset.specs.declared.shape.Shape.TheVariants.{Irregular, Regular}
@@ -45,11 +44,6 @@ AreOnStarts (Regular grid) es = (stamp : ℤ) (row : Row) → element_at stamp e
 pub record IsSeries (s : Side) : Type 0 where
   pub rising : AreRising s.elements
   pub on_starts : AreOnStarts s.shape s.elements
-
--- the calendar of a grid is laid out on stamps
-abbrev pub IsLaidOut : Shape → Type 0
-IsLaidOut Irregular = Unit {0}
-IsLaidOut (Regular grid) = IsLaid grid.calendar
 
 -- a stamp isn't later than the start of the interval that holds another one, unless that starts before the origin
 abbrev pub IsBeforeHeld : Shape → ℤ → ℤ → Type 0

@@ -4,7 +4,8 @@ ghost use Rattle.ts_base.specs.Moment.{IsStamp};
 ghost use Rattle.ts_offset.specs.declared.shape.Shape.TheVariants.{Regular};
 ghost use Rattle.ts_pattern.specs.declared.junction.Junction.{Junction as TheJunction};
 ghost use Rattle.ts_combine.specs.Combine.{Side as TheSide, joined};
-ghost use Rattle.ts_combine.specs.Series.{IsLaidOut, IsSeries, IsEnough, side_within};
+ghost use Rattle.ts_combine.specs.Series.{IsSeries, IsEnough, side_within};
+ghost use Rattle.ts_offset.specs.Shape.{IsLaidOut};
 
 use ts_base::Stamp;
 use ts_offset::{Grid, Shape};

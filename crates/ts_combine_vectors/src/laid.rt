@@ -1,6 +1,7 @@
 // Series as a row of a table has them.
 ghost use Rattle.std.specs.Prelude.{◌≡◌, IfSome};
-ghost use Rattle.ts_combine.specs.Series.{HasCalendar, IsLaidOut};
+ghost use Rattle.ts_combine.specs.Series.{HasCalendar};
+ghost use Rattle.ts_offset.specs.Shape.{IsLaidOut};
 ghost use Rattle.ts_combine_vectors.specs.Kept.{HasOwn};
 
 use std::alloc::Global;

@@ -28,7 +28,7 @@ use Rattle.ts_offset.proofs.ListLemmas.{taken-zero, taken-suc}
 use Rattle.ts_offset.specs.declared.shape.Shape.{Shape}
 use Rattle.ts_offset.specs.declared.shape.Shape.TheVariants.{Irregular, Regular}
 use Rattle.ts_pattern.specs.declared.junction.Junction.{Junction}
-use Rattle.ts_combine.specs.Series.{IsLaidOut}
+use Rattle.ts_offset.specs.Shape.{IsLaidOut}
 use Rattle.ts_combine.specs.Combine.{Side, by_stamp, merged_stamps, every_start, row_around, joined_at, joined_of, joined_on, joined_there, joined}
 use Rattle.ts_base.specs.Moment.{is_between}
 use Rattle.ts_irregular.specs.Edit.{element_at}

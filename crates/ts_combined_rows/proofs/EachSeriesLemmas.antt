@@ -16,7 +16,8 @@ use Rattle.ts_offset.specs.declared.shape.Shape.{Shape}
 use Rattle.ts_expr.specs.declared.item.Item.{Item}
 use Rattle.ts_expr.specs.Grammar.{read_list}
 use Rattle.ts_expr.specs.Binding.{Binding, binding}
-use Rattle.ts_clip.specs.Series.{IsLaidOut, IsTold}
+use Rattle.ts_clip.specs.Series.{IsTold}
+use Rattle.ts_offset.specs.Shape.{IsLaidOut}
 use Rattle.ts_aggregate.specs.Fold.{Fold, Folds}
 use Rattle.ts_model.specs.declared.kind.Kind.TheVariants as kinds
 use Rattle.ts_model.specs.declared.def.Def.TheVariants as defs

@@ -8,7 +8,8 @@ use Rattle.ts_row.specs.Element.{Element, seen}
 use Rattle.ts_space.specs.Directory.{places_of}
 use Rattle.ts_offset.specs.declared.shape.Shape.{Shape}
 use Rattle.ts_entry.specs.Handed.{AreHanded}
-use Rattle.ts_clip.specs.Series.{IsLaidOut, IsTold}
+use Rattle.ts_clip.specs.Series.{IsTold}
+use Rattle.ts_offset.specs.Shape.{IsLaidOut}
 use Rattle.ts_combine.specs.Lag.{lagged}
 use Rattle.ts_model.specs.Catalogue.{Catalogue, shape_of}
 use Rattle.ts_layout.specs.Meaning.{Layout, catalogue_of}

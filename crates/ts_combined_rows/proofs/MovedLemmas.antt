@@ -19,7 +19,8 @@ use Rattle.ts_entry.specs.Entry.{Entry, filled, elements_of}
 use Rattle.ts_entry.specs.Handed.{AreHanded}
 use Rattle.ts_base.specs.Answer.{most_rows, within_rows}
 use Rattle.ts_clip.specs.Call.{AreElementsTaken}
-use Rattle.ts_clip.specs.Series.{HaveElements, IsLaidOut}
+use Rattle.ts_clip.specs.Series.{HaveElements}
+use Rattle.ts_offset.specs.Shape.{IsLaidOut}
 use Rattle.ts_combine.specs.Lag.{lagged}
 use Rattle.ts_combine.specs.Moved.{moved, start_behind, last_offset}
 use Rattle.ts_combine.specs.Series.{AreOnStarts, IsStartOf}

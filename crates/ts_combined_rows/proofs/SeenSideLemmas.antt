@@ -8,7 +8,8 @@ use Rattle.ts_row.specs.Element.{Element, seen}
 use Rattle.ts_space.specs.Directory.{places_of}
 use Rattle.ts_sheets.specs.Range.{within_range}
 use Rattle.ts_offset.specs.declared.shape.Shape.{Shape}
-use Rattle.ts_clip.specs.Series.{HaveElements, IsLaidOut, IsTold}
+use Rattle.ts_clip.specs.Series.{HaveElements, IsTold}
+use Rattle.ts_offset.specs.Shape.{IsLaidOut}
 use Rattle.ts_model.specs.Catalogue.{Series, Catalogue, columns_of, shape_of}
 use Rattle.ts_layout.specs.Meaning.{Layout, catalogue_of}
 use Rattle.ts_answer.specs.Answer.{Tried, ◌>>=◌, wanted, seen_elements}

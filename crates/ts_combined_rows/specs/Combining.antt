@@ -3,7 +3,8 @@ use Rattle.std.specs.Prelude.{◌≡◌, ℕ, ◌<◌, ◌^◌, ℤ, IsTrue, Som
 use Rattle.ts_page.specs.Pages.{Contents}
 use Rattle.ts_space.specs.declared.place.Place.{Place}
 use Rattle.ts_space.specs.Place.{IsRising, count_of}
-use Rattle.ts_clip.specs.Series.{ArePlaces, IsLaidOut}
+use Rattle.ts_clip.specs.Series.{ArePlaces}
+use Rattle.ts_offset.specs.Shape.{IsLaidOut}
 use Rattle.ts_model.specs.Definitions.{Definitions, series_slots}
 use Rattle.ts_layout.specs.Meaning.{shape_at}
 use Rattle.ts_row.specs.declared.kind.Column.{Column}

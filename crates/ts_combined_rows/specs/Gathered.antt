@@ -8,7 +8,8 @@ use Rattle.ts_page.specs.declared.page.Page.{Page}
 use Rattle.ts_page.specs.Pages.{Contents}
 use Rattle.ts_space.specs.declared.place.Place.{Place}
 use Rattle.ts_space.specs.Directory.{places_of}
-use Rattle.ts_clip.specs.Series.{IsLaidOut, HoldRange, ArePagesOf}
+use Rattle.ts_clip.specs.Series.{HoldRange, ArePagesOf}
+use Rattle.ts_offset.specs.Shape.{IsLaidOut}
 use Rattle.ts_aggregate.specs.declared.series_pages.Stack.{Stack}
 use Rattle.ts_aggregate.specs.Stacks.{pages_of}
 use Rattle.ts_model.specs.Definitions.{Definitions, SeriesDef, at_slot, series_slots}

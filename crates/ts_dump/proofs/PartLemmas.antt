@@ -28,7 +28,8 @@ use Rattle.ts_sheets.specs.Stamped.{stamped, stamped_one, HaveStarts}
 use Rattle.ts_layout.proofs.CallerLemmas.{all_front, all_back}
 use Rattle.ts_shelf.proofs.StartLemmas.{start_of, stamped_cons}
 use Rattle.ts_page.specs.declared.page.Page.{Page}
-use Rattle.ts_clip.specs.Series.{ArePagesOf, HaveElements, HaveOnPlaces, IsLaidOut}
+use Rattle.ts_clip.specs.Series.{ArePagesOf, HaveElements, HaveOnPlaces}
+use Rattle.ts_offset.specs.Shape.{IsLaidOut}
 use Rattle.ts_dump.specs.declared.grouping.Grouping.{Grouping}
 use Rattle.ts_dump.specs.Placed.{ArePut, SaysTexts}
 use Rattle.ts_dump.specs.Elements.{texts_of_elements, texts_both, TextsPut}

@@ -8,7 +8,7 @@ use Rattle.ts_row.specs.Element.{Element}
 use Rattle.ts_journal.specs.Journal.{pages}
 use Rattle.ts_space.specs.Directory.{Directory, places_of}
 use Rattle.ts_offset.specs.declared.shape.Shape.{Shape}
-use Rattle.ts_clip.specs.Series.{IsLaidOut}
+use Rattle.ts_offset.specs.Shape.{IsLaidOut}
 use Rattle.ts_model.specs.declared.def.Def.{Def}
 use Rattle.ts_model.specs.declared.kind.Kind.TheVariants as kinds
 use Rattle.ts_model.specs.Catalogue.{columns_of}

@@ -37,7 +37,8 @@ use Rattle.ts_shelf.proofs.LawLemmas.{charges}
 use Rattle.ts_shelf.proofs.SeenLemmas.{SeriesIn, HasSeen, heading_there, entries_in}
 use Rattle.ts_elements.specs.Elements.{edit_of}
 use Rattle.ts_elements.specs.Room.{IsBudget}
-use Rattle.ts_elements.specs.Stamps.{HaveElements, IsLaidOut, charge_by, target_from, target_in}
+use Rattle.ts_elements.specs.Stamps.{HaveElements, charge_by, target_from, target_in}
+use Rattle.ts_offset.specs.Shape.{IsLaidOut}
 use Rattle.ts_elements.proofs.LawLemmas.{as_maps}
 use Rattle.ts_elements.proofs.AddressLemmas.{address_is}
 use Rattle.ts_elements.proofs.SeriesLemmas.{costs}

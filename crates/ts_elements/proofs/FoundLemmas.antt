@@ -18,7 +18,8 @@ use Rattle.ts_answer.specs.Reply.{elements_text}
 use Rattle.ts_answer.specs.View.{View, Shows}
 use Rattle.ts_shelf.specs.Shelf.{IsShelfIn}
 use Rattle.ts_shelf.proofs.SeenLemmas.{HasSeen, elements_seen, entries_in}
-use Rattle.ts_elements.specs.Stamps.{IsLaidOut, IsTold}
+use Rattle.ts_elements.specs.Stamps.{IsTold}
+use Rattle.ts_offset.specs.Shape.{IsLaidOut}
 use Rattle.ts_elements.specs.Calls.{IsFound}
 use Rattle.ts_elements.proofs.LawLemmas.{as_maps}
 use Rattle.ts_elements.proofs.AddressLemmas.{address_is}

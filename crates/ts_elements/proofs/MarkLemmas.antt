@@ -29,7 +29,7 @@ use Rattle.ts_answer.proofs.CallerLemmas.{wanted-there, format-has, row-there, r
 use Rattle.ts_shelf.specs.Shelf.{IsShelf}
 use Rattle.ts_shelf.proofs.SeenLemmas.{SeriesIn, HasSeen, series_seen, shape_same, elements_seen}
 use Rattle.ts_elements.specs.Elements.{mark_of}
-use Rattle.ts_elements.specs.Stamps.{IsLaidOut}
+use Rattle.ts_offset.specs.Shape.{IsLaidOut}
 use Rattle.ts_elements.specs.Calls.{IsMarked, IsMarkSet, IsUnmarked}
 use Rattle.ts_elements.proofs.LawLemmas.{as_maps}
 use Rattle.ts_elements.proofs.AddressLemmas.{address_is}

@@ -35,7 +35,8 @@ use Rattle.ts_shelf.proofs.LawLemmas.{room_left}
 use Rattle.ts_shelf.proofs.SeenLemmas.{SeriesIn, HasSeen, series_seen, columns_same, shape_same, shape_there, shape_in_layout, elements_seen}
 use Rattle.ts_elements.specs.Elements.{HasRow, edit_of}
 use Rattle.ts_elements.specs.Room.{IsBudget}
-use Rattle.ts_elements.specs.Stamps.{IsLaidOut, charge_by, charge_with_one}
+use Rattle.ts_elements.specs.Stamps.{charge_by, charge_with_one}
+use Rattle.ts_offset.specs.Shape.{IsLaidOut}
 use Rattle.ts_elements.specs.Calls.{IsPut, IsGivenRow, IsRefused, IsFull}
 use Rattle.ts_elements.proofs.MemoryLemmas.{charge_same, paid_in, pays_less, pays_within}
 use Rattle.ts_elements.proofs.RewriteLemmas.{Becomes, stays_moved, rewritten_carried}

@@ -31,7 +31,8 @@ use Rattle.ts_answer.specs.CarriedOut.{CarriedOut, Grows, Stays}
 use Rattle.ts_answer.proofs.CallerLemmas.{wanted-there, on_ok, shows_still, kept_still, grows_one, element_not_there, range_not_there}
 use Rattle.ts_shelf.specs.Shelf.{IsShelf}
 use Rattle.ts_shelf.proofs.SeenLemmas.{SeriesIn, HasSeen, entries_in, series_seen, shape_same, elements_seen}
-use Rattle.ts_elements.specs.Stamps.{IsLaidOut, IsTold}
+use Rattle.ts_elements.specs.Stamps.{IsTold}
+use Rattle.ts_offset.specs.Shape.{IsLaidOut}
 use Rattle.ts_elements.specs.Calls.{IsTakenAway, AreCleared}
 use Rattle.ts_elements.proofs.LawLemmas.{as_maps}
 use Rattle.ts_elements.proofs.AddressLemmas.{address_is}

@@ -30,7 +30,8 @@ use Rattle.ts_answer.proofs.CallerLemmas.{held_same, grows_one}
 use Rattle.ts_shelf.specs.Shelf.{IsShelf, IsSeries}
 use Rattle.ts_shelf.proofs.LawLemmas.{charges}
 use Rattle.ts_shelf.proofs.SeenLemmas.{SeriesIn, HasSeen, heading_there, series_seen, columns_in, shape_in_layout, elements_seen}
-use Rattle.ts_elements.specs.Stamps.{AreWritten, IsLaidOut}
+use Rattle.ts_elements.specs.Stamps.{AreWritten}
+use Rattle.ts_offset.specs.Shape.{IsLaidOut}
 use Rattle.ts_elements.proofs.LawLemmas.{rewritten, kept_same}
 use Rattle.ts_elements.proofs.SeriesLemmas.{AreSheets, sheets_of}
 use Rattle.ts_elements.proofs.MemoryLemmas.{with_places, rules_after}

@@ -19,7 +19,8 @@ use Rattle.ts_layout.specs.Sheets.{Sheet, AreInSequence, AreSheetsOn, elements_i
 use Rattle.ts_layout.specs.Chains.{by_stamp, chain_sheets, grid_sheets}
 use Rattle.ts_shelf.proofs.LawLemmas.{charges, entries_rising}
 use Rattle.ts_shelf.proofs.OrderLemmas.{in_order}
-use Rattle.ts_elements.specs.Stamps.{HaveElements, IsLaidOut, charge_by}
+use Rattle.ts_elements.specs.Stamps.{HaveElements, charge_by}
+use Rattle.ts_offset.specs.Shape.{IsLaidOut}
 use Rattle.ts_elements.proofs.LawLemmas.{as_sheets}
 
 -- as many as there are entries of their map

@@ -16,7 +16,7 @@ use Rattle.ts_series.specs.Edit as irregular
 use Rattle.ts_regular_edits.specs.Edit.{refusal_if}
 use Rattle.ts_offset.specs.declared.shape.Shape.{Shape}
 use Rattle.ts_offset.specs.declared.shape.Shape.TheVariants.{Irregular, Regular}
-pub use Rattle.ts_clip.specs.Series.{IsLaidOut, ArePlaces, HaveChain, HaveCells, HaveElements, IsTold}
+pub use Rattle.ts_clip.specs.Series.{ArePlaces, HaveChain, HaveCells, HaveElements, IsTold}
 use Rattle.ts_answer.specs.Answer.{Tried, ◌>>=◌, addressed}
 
 -- The pages have these elements, of which the new places tell; no page changed but those of the old places and those

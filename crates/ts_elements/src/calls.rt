@@ -8,7 +8,8 @@ ghost use Rattle.ts_page.specs.Pages.{Answered};
 ghost use Rattle.ts_cells.specs.Cell.{page_room};
 ghost use Rattle.ts_model.specs.Definitions.{series_slots};
 ghost use Rattle.ts_answer.specs.CarriedOut.{Grows};
-ghost use Rattle.ts_elements.specs.Stamps.{ArePlaces, IsLaidOut};
+ghost use Rattle.ts_elements.specs.Stamps.{ArePlaces};
+ghost use Rattle.ts_offset.specs.Shape.{IsLaidOut};
 ghost use Rattle.ts_elements.specs.Calls.{IsEdited, IsMarked, IsRemoved, IsCleared};
 
 use std::alloc::Global;

@@ -13,7 +13,8 @@ ghost use Rattle.ts_answer.specs.CarriedOut.{CarriedOut};
 ghost use Rattle.ts_answer.specs.Answer.{a_row};
 ghost use Rattle.ts_answer.specs.Tried.{IsTried};
 ghost use Rattle.ts_elements.specs.Elements.{HasRow, edit_of};
-ghost use Rattle.ts_elements.specs.Stamps.{ArePlaces, IsLaidOut};
+ghost use Rattle.ts_elements.specs.Stamps.{ArePlaces};
+ghost use Rattle.ts_offset.specs.Shape.{IsLaidOut};
 
 use crate::calls::edit_in;
 use crate::room::{budget_of, refusal_of, room_in};

@@ -5,7 +5,8 @@ ghost use Rattle.ts_row.specs.Element.{seen};
 ghost use Rattle.ts_space.specs.Directory.{places_of};
 ghost use Rattle.ts_irregular.specs.Call.{Reads};
 ghost use Rattle.ts_model.specs.Definitions.{series_slots};
-ghost use Rattle.ts_elements.specs.Stamps.{ArePlaces, IsLaidOut};
+ghost use Rattle.ts_elements.specs.Stamps.{ArePlaces};
+ghost use Rattle.ts_offset.specs.Shape.{IsLaidOut};
 ghost use Rattle.ts_elements.specs.Calls.{IsFound};
 
 use ts_base::{Stamp, StoreFault};

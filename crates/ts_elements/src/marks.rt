@@ -6,7 +6,8 @@ ghost use Rattle.ts_answer.specs.View.{view, IsSeen};
 ghost use Rattle.ts_answer.specs.CarriedOut.{CarriedOut};
 ghost use Rattle.ts_shelf.specs.Shelf.{IsShelf};
 ghost use Rattle.ts_elements.specs.Elements.{mark_of};
-ghost use Rattle.ts_elements.specs.Stamps.{ArePlaces, IsLaidOut};
+ghost use Rattle.ts_elements.specs.Stamps.{ArePlaces};
+ghost use Rattle.ts_offset.specs.Shape.{IsLaidOut};
 
 use crate::calls::mark_in;
 use ts_answer::{Effect, Stop};

@@ -7,7 +7,8 @@ ghost use Rattle.ts_model.specs.Definitions.{series_slots};
 ghost use Rattle.ts_answer.specs.View.{view, IsSeen};
 ghost use Rattle.ts_answer.specs.CarriedOut.{CarriedOut};
 ghost use Rattle.ts_shelf.specs.Shelf.{IsShelf};
-ghost use Rattle.ts_elements.specs.Stamps.{ArePlaces, IsLaidOut};
+ghost use Rattle.ts_elements.specs.Stamps.{ArePlaces};
+ghost use Rattle.ts_offset.specs.Shape.{IsLaidOut};
 
 use crate::calls::{clear_in, remove_in};
 use std::alloc::Global;

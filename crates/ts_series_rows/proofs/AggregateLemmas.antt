@@ -19,7 +19,8 @@ use Rattle.ts_expr.specs.declared.item.Item.{Item}
 use Rattle.ts_expr.specs.Grammar.{read_list}
 use Rattle.ts_expr.specs.Binding.{Binding, binding}
 use Rattle.ts_expr.specs.Fold.{folded_row}
-use Rattle.ts_clip.specs.Series.{IsLaidOut, IsTold}
+use Rattle.ts_clip.specs.Series.{IsTold}
+use Rattle.ts_offset.specs.Shape.{IsLaidOut}
 use Rattle.ts_aggregate.specs.Fold.{Fold, Folds, HasTaken}
 use Rattle.ts_entry.specs.Handed.{AreHanded}
 use Rattle.ts_model.specs.Catalogue.{Series, Catalogue, columns_of}

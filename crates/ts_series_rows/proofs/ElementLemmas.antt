@@ -19,7 +19,8 @@ use Rattle.ts_expr.specs.declared.function.Function.TheVariants.{Sum, Avg, Count
 use Rattle.ts_expr.specs.declared.item.BoundItem.{BoundItem}
 use Rattle.ts_expr.specs.Grammar.{item}
 use Rattle.ts_expr.specs.Binding.{column_from, takes_kind, bound_item, bound_to, bound}
-use Rattle.ts_clip.specs.Series.{IsLaidOut, IsTold}
+use Rattle.ts_clip.specs.Series.{IsTold}
+use Rattle.ts_offset.specs.Shape.{IsLaidOut}
 use Rattle.ts_entry.specs.Handed.{AreHanded}
 use Rattle.ts_running.specs.ColumnText.{read_column}
 use Rattle.ts_running.specs.Grammar.{Named, read_exprs}

@@ -13,7 +13,8 @@ use Rattle.ts_offset.specs.declared.shape.Shape.{Shape}
 use Rattle.ts_entry.specs.Entry.{Entry, AreTaken}
 use Rattle.ts_entry.specs.Reading.{reading, clipped}
 use Rattle.ts_clip.specs.Call.{IsRead, IsShown}
-use Rattle.ts_clip.specs.Series.{IsLaidOut, IsTold}
+use Rattle.ts_clip.specs.Series.{IsTold}
+use Rattle.ts_offset.specs.Shape.{IsLaidOut}
 use Rattle.ts_model.specs.Catalogue.{Series, Catalogue, columns_of, shape_of}
 use Rattle.ts_layout.specs.Meaning.{Layout, catalogue_of}
 use Rattle.ts_answer.specs.Answer.{Tried, Answered, ◌>>=◌, known, wanted, outcome, carried_out, a_reading, get_nth_element, clip_series, clip_counted, count_clip}

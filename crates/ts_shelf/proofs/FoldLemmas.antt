@@ -15,7 +15,8 @@ use Rattle.ts_base.specs.Answer.{Answers}
 use Rattle.ts_expr.specs.Grammar.{read_list}
 use Rattle.ts_expr.specs.Binding.{Binding, binding}
 use Rattle.ts_expr.specs.Fold.{folded_row}
-use Rattle.ts_clip.specs.Series.{IsLaidOut, IsTold}
+use Rattle.ts_clip.specs.Series.{IsTold}
+use Rattle.ts_offset.specs.Shape.{IsLaidOut}
 use Rattle.ts_aggregate.specs.Fold.{Fold, Folds}
 use Rattle.ts_layout.specs.Meaning.{Layout, elements_at, heading_at, shape_at}
 use Rattle.ts_answer.specs.Answer.{Tried, folded_range}

@@ -10,7 +10,8 @@ use Rattle.ts_regular.specs.Places.{all_in as all_at}
 use Rattle.ts_regular.proofs.PlaceLemmas.{pages_rise}
 use Rattle.ts_offset.specs.declared.shape.Shape.{Shape}
 use Rattle.ts_offset.specs.declared.shape.Shape.TheVariants.{Irregular, Regular}
-use Rattle.ts_clip.specs.Series.{HaveElements, IsLaidOut}
+use Rattle.ts_clip.specs.Series.{HaveElements}
+use Rattle.ts_offset.specs.Shape.{IsLaidOut}
 use Rattle.ts_shelf.proofs.StartLemmas.{stamps_rising}
 
 -- they are in order

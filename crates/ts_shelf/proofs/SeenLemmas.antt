@@ -16,7 +16,8 @@ use Rattle.ts_regular.specs.Places.{all_in as all_at}
 use Rattle.ts_sheets.specs.Stamped.{stamped}
 use Rattle.ts_offset.specs.declared.shape.Shape.{Shape}
 use Rattle.ts_offset.specs.declared.shape.Shape.TheVariants.{Irregular, Regular}
-use Rattle.ts_clip.specs.Series.{HaveElements, IsLaidOut}
+use Rattle.ts_clip.specs.Series.{HaveElements}
+use Rattle.ts_offset.specs.Shape.{IsLaidOut}
 use Rattle.ts_model.specs.Catalogue.{Series, columns_of, shape_of}
 use Rattle.ts_model.specs.declared.kind.Kind.TheVariants as kinds
 use Rattle.ts_model.specs.Definitions.{Definitions, RowTypeDef, ContainerDef, SeriesDef, at_slot}

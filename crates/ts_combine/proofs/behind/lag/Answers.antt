@@ -7,7 +7,8 @@ use Rattle.ts_base.specs.Answer.{within_rows}
 use Rattle.ts_offset.specs.declared.shape.Shape.{Shape}
 use Rattle.ts_calendar.specs.Intervals.{IsLaid}
 use Rattle.ts_combine.specs.Lag.{lagged}
-use Rattle.ts_combine.specs.Series.{AreOnStarts, IsLaidOut}
+use Rattle.ts_combine.specs.Series.{AreOnStarts}
+use Rattle.ts_offset.specs.Shape.{IsLaidOut}
 use Rattle.ts_entry.specs.Entry.{elements_in}
 use Rattle.ts_combine.specs.Call.{AnswersRows}
 use Rattle.ts_combine.specs.Moved.{lagged_row}

@@ -2,7 +2,7 @@ use Rattle.std.proofs.Common.{IfOk, sym, subst}
 use Rattle.ts_space.specs.Directory.{places_of}
 use Rattle.ts_offset.specs.declared.shape.Shape.{Shape}
 use Rattle.ts_elements.specs.Calls.{IsMarked}
-use Rattle.ts_elements.specs.Stamps.{IsLaidOut}
+use Rattle.ts_offset.specs.Shape.{IsLaidOut}
 use Rattle.ts_elements.proofs.ChainLemmas.{ok_as, marked_chain}
 use Rattle.ts_elements.proofs.GridLemmas.{marked_cells}
 use Rattle.ts_elements.proofs.calls.mark_in.Goals as goal

@@ -2,7 +2,7 @@ use Rattle.std.proofs.Common.{IfOk, sym, subst}
 use Rattle.ts_space.specs.Directory.{places_of}
 use Rattle.ts_offset.specs.declared.shape.Shape.{Shape}
 use Rattle.ts_elements.specs.Calls.{IsRemoved}
-use Rattle.ts_elements.specs.Stamps.{IsLaidOut}
+use Rattle.ts_offset.specs.Shape.{IsLaidOut}
 use Rattle.ts_elements.proofs.ChainLemmas.{ok_as, removed_chain}
 use Rattle.ts_elements.proofs.GridLemmas.{removed_cells}
 use Rattle.ts_elements.proofs.calls.remove_in.Goals as goal
