@@ -18,7 +18,8 @@ use Rattle.ts_combine.specs.Series.{side_of}
 use Rattle.ts_entry.specs.Entry.{element_in, elements_in}
 use Rattle.ts_combine.specs.Rows.{Gathers}
 use Rattle.ts_combine.specs.Call.{row_at, joined_row, HasElements, GathersJoined, IsIndex}
-use Rattle.ts_combine.specs.Merge.{stamp_at, IsBeforeAny, IsTaken, behind}
+use Rattle.ts_combine.specs.Merge.{stamp_at, IsTaken, behind}
+use Rattle.ts_calendar.specs.Intervals.{IsBefore}
 use Rattle.ts_combine.specs.declared.joined.Joined.{Joined}
 use Rattle.ts_combine.specs.declared.rows.Rows.{Rows}
 use Rattle.ts_combine.specs.declared.side.Side as given
@@ -78,9 +79,9 @@ drop-none (x ∷ xs) zero none = absurd (cc)
 drop-none (x ∷ xs) (suc i) none = drop-none xs i none
 
 -- where the next one is later than a stamp, all are
-later-next : (es : List Element) (i : ℕ) (s : ℤ) → AreRising es → IsBeforeAny s (option_map (λ e. e.0) (slice_get es i)) → AreLater s (drop i es)
+later-next : (es : List Element) (i : ℕ) (s : ℤ) → AreRising es → IsBefore s (option_map (λ e. e.0) (slice_get es i)) → AreLater s (drop i es)
 later-next es i s rising before = by (slice_get es i) refl before where
-  by : (o : Option Element) → slice_get es i ≡ o → IsBeforeAny s (option_map (λ e. e.0) o) → AreLater s (drop i es)
+  by : (o : Option Element) → slice_get es i ≡ o → IsBefore s (option_map (λ e. e.0) o) → AreLater s (drop i es)
   by (Some e) there lt = subst (AreLater s) (sym (drop-there es i e there)) (lt, later-earlier s e.0 (drop (i + 1) es) lt (later-behind es i e rising there))
   by None there lt = subst (AreLater s) (sym (drop-none es i there)) tt
 
