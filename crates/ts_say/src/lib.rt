@@ -1,9 +1,10 @@
 //! What replies say: lines and rows, each added behind what was said before (`specs/Reply` of ts_answer has their
-//! texts). Of replies with many lines `EntryLines` says each entry of a series straight from its bytes, `FoldedLines`
-//! what an aggregate list makes of elements, and `say_line` and `say_joined` a row from its values; all keep the text
-//! of a day, of which many stamps lie on one (`specs/Day`). Stands on ts_row, ts_pattern and ts_calendar for what they
-//! print, on ts_expr for the digits of what lists make, and on ts_entry for who takes entries and elements; knows no
-//! catalogue and no page. Read `say.rt`, `say_values.rt`, then `say_entries.rt`.
+//! texts); after an error what was said before still stands in front of what was added. Of replies with many lines
+//! `EntryLines` says each entry of a series straight from its bytes, `FoldedLines` what an aggregate list makes of
+//! elements, and `say_line` and `say_joined` a row from its values; all keep the text of a day, of which many stamps
+//! lie on one (`specs/Day`). Stands on ts_row, ts_pattern and ts_calendar for what they print, on ts_expr for the
+//! digits of what lists make, and on ts_entry for who takes entries and elements; knows no catalogue and no page. Read
+//! `say.rt`, `say_values.rt`, then `say_entries.rt`.
 #![tactic(auto)]
 
 mod day_text;
