@@ -1,5 +1,5 @@
 -- What a call answers.
-use Rattle.std.specs.Prelude.{◌≡◌, ℕ, nat_lt, if◌then◌else◌, Result, Ok, Err, List, length, Vec}
+use Rattle.std.specs.Prelude.{◌≡◌, ℕ, nat_lt, if◌then◌else◌, Result, Ok, Err, List, ◌++◌, length, Vec}
 use Rattle.ts_base.specs.declared.refusal.Refusal.{Refusal}
 use Rattle.ts_base.specs.declared.refusal.Refusal.TheVariants.{TooLarge}
 use Rattle.ts_base.specs.declared.fault.Trouble.{Trouble}
@@ -29,3 +29,7 @@ most_rows = 1_000_000
 -- rows, where they are no more than a reply may have; else how many they would be
 abbrev pub within_rows : {A : Type 0} → List A → Result (List A) Refusal
 within_rows rows = if nat_lt most_rows (length rows) then Err (TooLarge (length rows)) else Ok rows
+
+-- a text has become longer at its end, if at all
+abbrev pub Extends : List ℕ → List ℕ → Type 0
+Extends old new = (more : List ℕ) × (new ≡ old ++ more)

@@ -1,8 +1,9 @@
 // Numbers in decimal digits, read and printed.
-ghost use Rattle.std.specs.Prelude.{◌≡◌, ◌^◌, ◌<◌, ◌≤◌, ◌++◌, length, IsTrue, OnOk};
+ghost use Rattle.std.specs.Prelude.{◌≡◌, ◌^◌, ◌<◌, ◌≤◌, ◌++◌, length, IsTrue, OnErr, OnOk};
 ghost use Rattle.std.specs.List.{list_all};
 ghost use Rattle.std.specs.Char.{is_ascii_digit};
 ghost use Rattle.std.specs.Fmt.{decimal};
+ghost use Rattle.ts_base.specs.Answer.{Extends};
 ghost use Rattle.ts_base.specs.StampText.{all_digits, number_of};
 ghost use Rattle.ts_text.specs.Digits.{digit_count, magnitude_of};
 
@@ -45,7 +46,8 @@ pub fn number(digits: &[u8]) -> u32
 
 /// Puts a number in decimal digits to the end.
 pub fn print_number(number: u32, out: &mut Bytes) -> Result<(), AllocError>
-    ensures { OnOk result (out.new ≡ out.old ++ decimal number) }
+    ensures ok { OnOk result (out.new ≡ out.old ++ decimal number) }
+    ensures err { OnErr result (Extends out.old out.new) }
 {
     if number < 10 {
         return out.push(b'0' + number as u8);

@@ -7,7 +7,7 @@ use Rattle.ts_dump.proofs.texts.print_container.Goals as goal
 
 pub returns : goal.returns
 returns c = on_ok_weaker c.extend_from_slice-6.result (λ last.
-    let t1 : c.extend_from_slice-6.new.self ≡ c.extend_from_slice-5.new.self ++ (decimal c.args.quota ++ (codes ");")) = behind c.extend_from_slice-5.new.self c.print_number.new.out c.extend_from_slice-6.new.self (decimal c.args.quota) (codes ");") c.in_ok-print_number.ensures last in
+    let t1 : c.extend_from_slice-6.new.self ≡ c.extend_from_slice-5.new.self ++ (decimal c.args.quota ++ (codes ");")) = behind c.extend_from_slice-5.new.self c.print_number.new.out c.extend_from_slice-6.new.self (decimal c.args.quota) (codes ");") c.in_ok-print_number.ensures.ok last in
     let t2 : c.extend_from_slice-6.new.self ≡ c.extend_from_slice-4.new.self ++ (44 ∷ 32 ∷ [] ++ (decimal c.args.quota ++ (codes ");"))) = behind c.extend_from_slice-4.new.self c.extend_from_slice-5.new.self c.extend_from_slice-6.new.self (44 ∷ 32 ∷ []) (decimal c.args.quota ++ (codes ");")) c.in_ok-extend_from_slice-5.ensures.ok t1 in
     let t3 : c.extend_from_slice-6.new.self ≡ c.extend_from_slice-3.new.self ++ (c.args.row_type.now ++ (44 ∷ 32 ∷ [] ++ (decimal c.args.quota ++ (codes ");")))) = behind c.extend_from_slice-3.new.self c.extend_from_slice-4.new.self c.extend_from_slice-6.new.self (c.args.row_type.now) (44 ∷ 32 ∷ [] ++ (decimal c.args.quota ++ (codes ");"))) c.in_ok-extend_from_slice-4.ensures.ok t2 in
     let t4 : c.extend_from_slice-6.new.self ≡ c.extend_from_slice-2.new.self ++ (44 ∷ 32 ∷ [] ++ (c.args.row_type.now ++ (44 ∷ 32 ∷ [] ++ (decimal c.args.quota ++ (codes ");"))))) = behind c.extend_from_slice-2.new.self c.extend_from_slice-3.new.self c.extend_from_slice-6.new.self (44 ∷ 32 ∷ []) (c.args.row_type.now ++ (44 ∷ 32 ∷ [] ++ (decimal c.args.quota ++ (codes ");")))) c.in_ok-extend_from_slice-3.ensures.ok t3 in
