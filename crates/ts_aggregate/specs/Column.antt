@@ -100,11 +100,6 @@ better most kept v = if most then greater kept v else lesser kept v
 abbrev pub is_better : Bool → Ordering → Bool
 is_better most order = if most then is_gt order else is_lt order
 
--- a number, if there is one
-abbrev pub number_if_any : Option ℤ → Value
-number_if_any None = Null
-number_if_any (Some z) = Number z
-
 -- a text, if there is one
 abbrev pub text_if_any : Option (Bor (List ℕ)) → Value
 text_if_any None = Null

@@ -1,13 +1,15 @@
 -- The places of a series beside its chain.
-use Rattle.std.specs.Prelude.{◌≡◌, ◌≢◌, ◌⊎◌, ℕ, ◌<◌, ◌≤◌, ℤ, ◌≤ℤ◌, All, AllPairs, Contains, List, [], ◌∷◌, ◌++◌, length}
+use Rattle.std.specs.Prelude.{◌≡◌, ◌≢◌, ◌⊎◌, ℕ, ◌≤◌, ℤ, ◌≤ℤ◌, All, AllPairs, List, [], ◌∷◌, ◌++◌, length}
 use Rattle.std.specs.Prelude.{◌+◌, IsPermutation}
 use Rattle.ts_space.specs.declared.place.Place.{Place}
 use Rattle.ts_space.specs.Place.{AreAbove, IsRising, pages_of}
-use Rattle.ts_page.specs.Pages.{Contents, IsElementPage}
+use Rattle.ts_page.specs.Pages.{Contents}
 use Rattle.ts_row.specs.declared.kind.Column.{Column}
 use Rattle.ts_row.specs.Element.{Element}
 use Rattle.ts_cells.specs.Cell.{page_room}
 use Rattle.ts_irregular.specs.OnePage.{IsPlace, IsOn}
+pub use Rattle.ts_regular.specs.Places.{CanBeRead}
+pub use Rattle.ts_regular.specs.Cut.{CanBeFreed}
 
 -- the pages have the elements of a chain, each those that its place tells of
 abbrev pub AreChained : ℕ → List Column → (ℕ → List ℕ) → List Place → List (List Element) → Type 0
@@ -16,17 +18,6 @@ AreChained slot columns pages [] (es ∷ chain) = ⊥
 AreChained slot columns pages (place ∷ places) [] = ⊥
 AreChained slot columns pages (place ∷ places) (es ∷ chain) = IsOn slot columns (pages place.page) place es
     × AreChained slot columns pages places chain
-
--- a place's page can be read: it is an element page
-pub record CanBeRead (c : Contents) (place : Place) : Type 0 where
-  pub element : IsElementPage place.page
-  pub below : place.page < c.count
-
--- the page of that number can be freed: it is an element page which `take` can't give
-pub record CanBeFreed (c : Contents) (number : ℕ) : Type 0 where
-  pub element : IsElementPage number
-  pub below : number < c.count
-  pub used : ¬ Contains c.free number
 
 -- each place is that of an element page which `take` can't give, with some elements and no more than there is room for;
 -- and no page has two
