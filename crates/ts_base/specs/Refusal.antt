@@ -10,76 +10,47 @@ use Rattle.ts_base.specs.declared.refusal.Refusal.TheVariants.{TooLarge, NotRegu
 use Rattle.ts_base.specs.declared.refusal.Refusal.TheVariants.{Overflow, OldFormat, WindowGone, NotOpen, AlreadyOpen}
 use Rattle.ts_base.specs.declared.refusal.Refusal.TheVariants.{TransactionFull, Conflict}
 
--- the number in the line `error NN Name`
+-- the number and the name in the line `error NN Name`
+abbrev pub code_and_name : Refusal → ℕ × List ℕ
+code_and_name (Syntax place) = (1, codes "Syntax")
+code_and_name TooLong = (2, codes "TooLong")
+code_and_name Unended = (3, codes "Unended")
+code_and_name UnknownName = (10, codes "UnknownName")
+code_and_name NameTaken = (11, codes "NameTaken")
+code_and_name (BadRowType column) = (12, codes "BadRowType")
+code_and_name (BadPattern place) = (13, codes "BadPattern")
+code_and_name (BadCalendar place) = (14, codes "BadCalendar")
+code_and_name AllOff = (15, codes "AllOff")
+code_and_name UnitMismatch = (16, codes "UnitMismatch")
+code_and_name (PatternTooLong length runs) = (17, codes "PatternTooLong")
+code_and_name NotAligned = (18, codes "NotAligned")
+code_and_name OffStamp = (20, codes "OffStamp")
+code_and_name BeforeOrigin = (21, codes "BeforeOrigin")
+code_and_name PastEnd = (22, codes "PastEnd")
+code_and_name Duplicate = (23, codes "Duplicate")
+code_and_name Missing = (24, codes "Missing")
+code_and_name SecondFull = (25, codes "SecondFull")
+code_and_name (RowMismatch column) = (26, codes "RowMismatch")
+code_and_name (ContainerFull charge quota) = (30, codes "ContainerFull")
+code_and_name (VolumeFull sum pages) = (31, codes "VolumeFull")
+code_and_name InUse = (32, codes "InUse")
+code_and_name TooMany = (33, codes "TooMany")
+code_and_name (TooLarge rows) = (34, codes "TooLarge")
+code_and_name NotRegular = (40, codes "NotRegular")
+code_and_name (BadExpression place) = (41, codes "BadExpression")
+code_and_name UnknownColumn = (42, codes "UnknownColumn")
+code_and_name Overflow = (43, codes "Overflow")
+code_and_name OldFormat = (44, codes "OldFormat")
+code_and_name (WindowGone newest) = (45, codes "WindowGone")
+code_and_name NotOpen = (50, codes "NotOpen")
+code_and_name AlreadyOpen = (51, codes "AlreadyOpen")
+code_and_name TransactionFull = (52, codes "TransactionFull")
+code_and_name (Conflict commit) = (53, codes "Conflict")
+
+-- the number in that line
 abbrev pub refusal_code : Refusal → ℕ
-refusal_code (Syntax place) = 1
-refusal_code TooLong = 2
-refusal_code Unended = 3
-refusal_code UnknownName = 10
-refusal_code NameTaken = 11
-refusal_code (BadRowType column) = 12
-refusal_code (BadPattern place) = 13
-refusal_code (BadCalendar place) = 14
-refusal_code AllOff = 15
-refusal_code UnitMismatch = 16
-refusal_code (PatternTooLong length runs) = 17
-refusal_code NotAligned = 18
-refusal_code OffStamp = 20
-refusal_code BeforeOrigin = 21
-refusal_code PastEnd = 22
-refusal_code Duplicate = 23
-refusal_code Missing = 24
-refusal_code SecondFull = 25
-refusal_code (RowMismatch column) = 26
-refusal_code (ContainerFull charge quota) = 30
-refusal_code (VolumeFull sum pages) = 31
-refusal_code InUse = 32
-refusal_code TooMany = 33
-refusal_code (TooLarge rows) = 34
-refusal_code NotRegular = 40
-refusal_code (BadExpression place) = 41
-refusal_code UnknownColumn = 42
-refusal_code Overflow = 43
-refusal_code OldFormat = 44
-refusal_code (WindowGone newest) = 45
-refusal_code NotOpen = 50
-refusal_code AlreadyOpen = 51
-refusal_code TransactionFull = 52
-refusal_code (Conflict commit) = 53
+refusal_code refusal = (code_and_name refusal).0
 
 -- the name in that line
 abbrev pub refusal_name : Refusal → List ℕ
-refusal_name (Syntax place) = codes "Syntax"
-refusal_name TooLong = codes "TooLong"
-refusal_name Unended = codes "Unended"
-refusal_name UnknownName = codes "UnknownName"
-refusal_name NameTaken = codes "NameTaken"
-refusal_name (BadRowType column) = codes "BadRowType"
-refusal_name (BadPattern place) = codes "BadPattern"
-refusal_name (BadCalendar place) = codes "BadCalendar"
-refusal_name AllOff = codes "AllOff"
-refusal_name UnitMismatch = codes "UnitMismatch"
-refusal_name (PatternTooLong length runs) = codes "PatternTooLong"
-refusal_name NotAligned = codes "NotAligned"
-refusal_name OffStamp = codes "OffStamp"
-refusal_name BeforeOrigin = codes "BeforeOrigin"
-refusal_name PastEnd = codes "PastEnd"
-refusal_name Duplicate = codes "Duplicate"
-refusal_name Missing = codes "Missing"
-refusal_name SecondFull = codes "SecondFull"
-refusal_name (RowMismatch column) = codes "RowMismatch"
-refusal_name (ContainerFull charge quota) = codes "ContainerFull"
-refusal_name (VolumeFull sum pages) = codes "VolumeFull"
-refusal_name InUse = codes "InUse"
-refusal_name TooMany = codes "TooMany"
-refusal_name (TooLarge rows) = codes "TooLarge"
-refusal_name NotRegular = codes "NotRegular"
-refusal_name (BadExpression place) = codes "BadExpression"
-refusal_name UnknownColumn = codes "UnknownColumn"
-refusal_name Overflow = codes "Overflow"
-refusal_name OldFormat = codes "OldFormat"
-refusal_name (WindowGone newest) = codes "WindowGone"
-refusal_name NotOpen = codes "NotOpen"
-refusal_name AlreadyOpen = codes "AlreadyOpen"
-refusal_name TransactionFull = codes "TransactionFull"
-refusal_name (Conflict commit) = codes "Conflict"
+refusal_name refusal = (code_and_name refusal).1
