@@ -1,6 +1,6 @@
 -- What is counted of the on starts of a calendar: CalIndex, CalStamp and CalRange of the Informix TimeSeries Data
 -- User's Guide.
-use Rattle.std.specs.Prelude.{◌≡◌, ℕ, ◌-◌, ◌&&◌, not, if◌then◌else◌, int_lt, ℤ, pos, neg_ℤ, Option, List}
+use Rattle.std.specs.Prelude.{ℕ, ◌-◌, ◌&&◌, not, if◌then◌else◌, int_lt, ℤ, pos, neg_ℤ, Option, List}
 use Rattle.std.specs.Prelude.{length, filter, slice_get, Result}
 use Rattle.ts_base.specs.declared.refusal.Refusal.{Refusal}
 use Rattle.ts_base.specs.Moment.{is_between}
