@@ -1,19 +1,16 @@
 -- What is known of a column of rows that stand in cells.
-use Rattle.std.specs.Prelude.{ℕ, ◌+◌, ◌-◌, List, [], map, take, slice_index_or}
+use Rattle.std.specs.Prelude.{◌≡◌, ℕ, ◌+◌, ◌-◌, ℤ, false, List, [], map, take, slice_index_or}
 use Rattle.ts_row.specs.declared.kind.Column.{Column}
 use Rattle.ts_row.specs.declared.kind.ColumnKind.{ColumnKind}
 use Rattle.ts_row.specs.declared.kind.ColumnKind.TheVariants.{Integer}
 use Rattle.ts_row.specs.RowType.{column_width, width_of}
 use Rattle.ts_row.specs.Decoding.{number_in}
+use Rattle.ts_expr.specs.Binding.{is_text_kind}
 use Rattle.ts_aggregate.specs.declared.cells.RowCells.{RowCells}
 use Rattle.ts_aggregate.specs.declared.cells.ValuePosition.{ValuePosition}
-use Rattle.ts_aggregate.specs.declared.folding.KnownColumn.{KnownColumn}
 use Rattle.ts_aggregate.specs.declared.numbers.Totals.{Totals}
 use Rattle.ts_aggregate.specs.Column.{found_in}
 use Rattle.ts_aggregate.specs.Totals.{AreKnown}
-
-abbrev pub known_column : ℕ → Totals → KnownColumn
-known_column column totals = record { column = column; totals = totals }
 
 -- some column
 abbrev pub a_column : Column
@@ -31,8 +28,11 @@ position_at columns r n = record {
   width = column_width (kind_at columns n) - 1;
 }
 
--- what is known is so of its numbers
-abbrev pub IsKnown : List Column → RowCells → KnownColumn → Type 0
-IsKnown columns r k =
-    AreKnown (map (number_in (kind_at columns k.column)) (found_in (position_at columns r k.column) r.left r.bytes.now))
-    k.totals
+-- the numbers of a column in cells
+abbrev pub numbers_at : List Column → RowCells → ℕ → List ℤ
+numbers_at columns r n = map (number_in (kind_at columns n)) (found_in (position_at columns r n) r.left r.bytes.now)
+
+-- a column is one of numbers, of which this is known
+pub record IsKnown (columns : List Column) (r : RowCells) (n : ℕ) (totals : Totals) : Type 0 where
+  pub numbers : is_text_kind (kind_at columns n) ≡ false
+  pub known : AreKnown (numbers_at columns r n) totals

@@ -37,6 +37,8 @@ pub(crate) struct ByInterval<'a, 'b, V> {
     out: &'a mut V,
     /// How many groups are closed.
     count: u64,
+    /// How many cells the last piece had.
+    mostly: usize,
 }
 
 impl<'a, 'b, V: ElementVisitor> ByInterval<'a, 'b, V> {
@@ -61,6 +63,7 @@ impl<'a, 'b, V: ElementVisitor> ByInterval<'a, 'b, V> {
             folding,
             out,
             count: 0,
+            mostly: 1,
         }
     }
 
@@ -174,7 +177,8 @@ impl<'a, 'b, V: ElementVisitor> ByInterval<'a, 'b, V> {
             return Ok(1);
         };
         self.reach(stamp)?;
-        let count = cells_before(cells, stamps, number, self.span.end);
+        let count = cells_before(cells, stamps, number, self.span.end, self.mostly);
+        self.mostly = count;
         let (piece, _) = cells.bytes.split_at(count * cells.size);
         self.fold(kind, piece, cells.front)?;
         Ok(count)

@@ -9,7 +9,7 @@ ghost use Rattle.ts_expr.specs.Fold.{earlier, later};
 ghost use Rattle.ts_expr.specs.Running.{count_of, with_value, with_sums};
 ghost use Rattle.ts_aggregate.specs.Column;
 ghost use Rattle.ts_aggregate.specs.Column.{found, AreWhole, read_values, read_numbers, read_texts, is_small};
-ghost use Rattle.ts_aggregate.specs.Totals.{AreKnown, AreTotals, is_told};
+ghost use Rattle.ts_aggregate.specs.Totals.{AreKnown, AreTotals};
 ghost use Rattle.ts_aggregate.specs.Totals as ThatTotals;
 
 use crate::cells::Cells;
@@ -20,45 +20,46 @@ use ts_base::Bytes;
 use ts_expr::Tally;
 use ts_row::{ColumnKind, Value};
 
-/// Takes the values of a column, as long as there are no more than 2^32 that are counted. What is known of its numbers
-/// may be known before, and is told; the least and the greatest are sought if they are wanted, or where they are
+/// Takes the values of a column, as long as there are no more than 2^32 that are counted. Where its numbers were looked
+/// at, what was found out of them is told; the least and the greatest are sought if they are wanted, or where they are
 /// needed.
 pub(crate) fn take_column(
     alloc: Global,
     tally: &mut Tally,
     cells: Cells<'_>,
     kind: ColumnKind,
-    known: Option<Totals>,
     wanted: bool,
-) -> Result<Option<Totals>, AllocError>
+    totals: &mut Totals,
+) -> Result<bool, AllocError>
     requires count { count_of tally.old ≤ 2 ^ 32 }
     requires few { cells.left ≤ 4064 }
     requires whole { AreWhole cells }
     requires width { cells.position.width + 1 ≡ column_width kind }
-    requires known { IfSome known (AreKnown (read_numbers kind cells)) }
     ensures few { count_of tally.new ≤ 2 ^ 32 }
     ensures value { OnOk result (IsTrue (list_all is_small (read_numbers kind cells.entry))
         → count_of tally.old + length (found cells.entry) ≤ 2 ^ 32
         → tally.new ≡ fold with_value tally.old (read_values kind cells.entry)) }
-    ensures known { IfOk result (λ told. IfSome told (AreKnown (read_numbers kind cells.entry))) }
+    ensures known { IfOk result (λ told. IsTrue told → AreKnown (read_numbers kind cells.entry) totals.new) }
+    ensures numbers { IfOk result (λ told. IsTrue told → is_text_kind kind ≡ false) }
+    ensures same { IfOk result (λ told. told ≡ false → totals.new ≡ totals.old) }
 {
     if let ColumnKind::VarChar { .. } = kind {
         take_texts(alloc, tally, cells, kind)?;
-        return Ok(known);
+        return Ok(false);
     }
     match tally {
         Tally::First(kept) => {
             keep_first(alloc, kept, cells, kind)?;
-            Ok(known)
+            Ok(false)
         }
         Tally::Last(kept) => {
             keep_last(alloc, kept, cells, kind)?;
-            Ok(known)
+            Ok(false)
         }
         _ => {
-            let totals = totals_for(is_best(tally), cells, kind, known, wanted);
+            *totals = totals_for(is_best(tally), cells, kind, wanted);
             take_totals(tally, totals);
-            Ok(Some(totals))
+            Ok(true)
         }
     }
 }
@@ -96,35 +97,41 @@ fn is_best(tally: &Tally) -> bool
     matches!(tally, Tally::Min(_) | Tally::Max(_))
 }
 
-// What is known of the numbers of a column, if that is enough, or else from nothing.
-fn totals_for(
-    needed: bool,
-    cells: Cells<'_>,
-    kind: ColumnKind,
-    known: Option<Totals>,
-    wanted: bool,
-) -> Totals
+// What is known of the numbers of a column, from nothing.
+fn totals_for(needed: bool, cells: Cells<'_>, kind: ColumnKind, wanted: bool) -> Totals
     requires few { cells.left ≤ 4064 }
     requires whole { AreWhole cells }
     requires width { cells.position.width + 1 ≡ column_width kind }
     requires numbers { is_text_kind kind ≡ false }
-    requires known { IfSome known (AreKnown (read_numbers kind cells)) }
     ensures known { AreKnown (read_numbers kind cells.entry) result }
     ensures needed { IsTrue needed → IsSome result.bests }
 {
-    match known {
-        Some(totals) if !needed || totals.bests.is_some() => totals,
-        _ => totals_of(cells, kind, needed || wanted),
+    totals_of(cells, kind, needed || wanted)
+}
+
+/// Whether totals are enough for a tally.
+#[inline(always)]
+pub(crate) fn is_told(tally: &Tally, totals: &Totals) -> bool
+    ensures { result ≡ ThatTotals.is_told tally.now totals.now }
+{
+    match tally {
+        Tally::Count(_) => true,
+        Tally::Sum(_) => true,
+        Tally::Avg(_) => true,
+        Tally::Min(_) => totals.bests.is_some(),
+        Tally::Max(_) => totals.bests.is_some(),
+        Tally::First(_) => false,
+        Tally::Last(_) => false,
     }
 }
 
-// Takes numbers of which this is known.
-fn take_totals(tally: &mut Tally, totals: Totals)
+/// Takes numbers of which this is known, and enough.
+pub(crate) fn take_totals(tally: &mut Tally, totals: &Totals)
     requires count { count_of tally.old ≤ 2 ^ 32 }
-    requires digits { unsigned_abs totals.sum ≤ totals.count * 10 ^ 28 }
-    requires told { IsTrue (is_told tally.old totals) }
+    requires digits { unsigned_abs totals.now.sum ≤ totals.now.count * 10 ^ 28 }
+    requires told { IsTrue (ThatTotals.is_told tally.old totals.now) }
     ensures few { count_of tally.new ≤ 2 ^ 32 }
-    ensures value { (zs : List ℤ) → AreTotals zs totals → count_of tally.old + length zs ≤ 2 ^ 32
+    ensures value { (zs : List ℤ) → AreTotals zs totals.now → count_of tally.old + length zs ≤ 2 ^ 32
         → tally.new ≡ fold with_value tally.old (map (λ z. Number z) zs) }
 {
     match tally {
@@ -150,9 +157,9 @@ fn add(tally: &mut Tally, count: u64, sum: i128)
 }
 
 // Keeps the least or the greatest of a value and of numbers of which this is known.
-fn keep_best(kept: &mut Value, totals: Totals, most: bool)
-    requires { IsSome totals.bests }
-    ensures { (zs : List ℤ) → AreTotals zs totals
+fn keep_best(kept: &mut Value, totals: &Totals, most: bool)
+    requires { IsSome totals.now.bests }
+    ensures { (zs : List ℤ) → AreTotals zs totals.now
         → kept.new ≡ fold (Column.better most) kept.old (map (λ z. Number z) zs) }
 {
     let Some(bests) = totals.bests else {

@@ -1,6 +1,6 @@
 // A fold of rows in their bytes.
 ghost use Rattle.std.specs.Prelude.{◌≡◌, ℕ, ◌+◌, ◌*◌, ◌≤◌, ◌<◌, [], ◌++◌, IfOk, OnOk, IsTrue, All, List, Option};
-ghost use Rattle.std.specs.Prelude.{IfSome, Some, option_map, length, map, take};
+ghost use Rattle.std.specs.Prelude.{if◌then◌else◌, length, map, take};
 ghost use Rattle.std.specs.List.{list_all};
 ghost use Rattle.ts_row.specs.Row.{Row as TheRow};
 ghost use Rattle.ts_row.specs.RowType.{is_kind, width_of};
@@ -9,10 +9,9 @@ ghost use Rattle.ts_expr.specs.Fold.{folded_row};
 ghost use Rattle.ts_expr.specs.Running.{after, value_of};
 ghost use Rattle.ts_aggregate.specs.Fold.{HasTaken, AreTallies, Takes, most_folded};
 ghost use Rattle.ts_aggregate.specs.Column.{AreRowCells};
-ghost use Rattle.ts_aggregate.specs.KnownColumns.{known_column};
 
 use crate::cells::{Cells, RowCells, ValuePosition};
-use crate::column::take_column;
+use crate::column::{is_told, take_column, take_totals};
 use crate::numbers::Totals;
 use std::alloc::{AllocError, Global};
 use std::marker::Model;
@@ -141,13 +140,6 @@ fn renew_all(
     Ok(values)
 }
 
-/// What is known of the numbers of a column.
-#[derive(Clone, Copy)]
-pub(crate) struct KnownColumn {
-    pub column: usize,
-    pub totals: Totals,
-}
-
 // Each item takes the values of its column. Items of one column that stand beside each other look at its cells once.
 fn take_items(
     alloc: Global,
@@ -165,8 +157,18 @@ fn take_items(
         → (before : List TheRow) → length before + length (rows_in found) ≤ most_folded
         → tallies.old ≡ after items.now before → tallies.new ≡ after items.now (before ++ rows_in found)) }
 {
-    let mut last = None;
+    // The column of which the totals are, or none.
+    let mut column = columns.len();
+    let mut totals = Totals {
+        count: 0,
+        sum: 0,
+        bests: None,
+    };
     for (number, item) in items.iter().enumerate() {
+        if item.column == column && is_told(&tallies[number], &totals) {
+            take_totals(&mut tallies[number], &totals);
+            continue;
+        }
         let kind = columns[item.column].kind;
         let position = ValuePosition {
             size: row_cells.size,
@@ -179,30 +181,25 @@ fn take_items(
             left: row_cells.left,
             bytes: row_cells.bytes,
         };
-        let known = known_of(last, item.column);
         let wanted = are_bests_wanted(&items[number..], item.column);
-        let told = take_column(alloc, &mut tallies[number], cells, kind, known, wanted)?;
-        last = known_at(item.column, told);
+        let told = take_column(
+            alloc,
+            &mut tallies[number],
+            cells,
+            kind,
+            wanted,
+            &mut totals,
+        )?;
+        column = told_column(told, item.column, column);
     }
     Ok(())
 }
 
-// What is known of a column, if it is this one.
-fn known_of(last: Option<KnownColumn>, column: usize) -> Option<Totals>
-    ensures { IfSome result (λ totals. last ≡ Some (known_column column totals)) }
+// A column that was told of, or else the one before.
+fn told_column(told: bool, column: usize, before: usize) -> usize
+    ensures { result ≡ (if told then column else before) }
 {
-    match last {
-        Some(known) if known.column == column => Some(known.totals),
-        _ => None,
-    }
-}
-
-// What is known of a column, if that is.
-fn known_at(column: usize, told: Option<Totals>) -> Option<KnownColumn>
-    ensures { result ≡ option_map (λ totals. known_column column totals) told }
-{
-    let totals = told?;
-    Some(KnownColumn { column, totals })
+    if told { column } else { before }
 }
 
 // Whether one of some items wants the least or the greatest of a column.

@@ -1,6 +1,6 @@
 // How far a group goes on in cells.
 ghost use Rattle.std.specs.Prelude.{◌≡◌, ℤ, ◌+◌, ◌*◌, ◌^◌, ◌<◌, ◌≤◌, ◌<ℤ◌, ℕ, Some, Option, IsTrue, List, length, map};
-ghost use Rattle.std.specs.Prelude.{take, drop};
+ghost use Rattle.std.specs.Prelude.{◌-◌, take, drop};
 ghost use Rattle.ts_row.specs.declared.kind.Column.{Column};
 ghost use Rattle.ts_row.specs.RowType.{width_of};
 ghost use Rattle.ts_row.specs.Element.{Element};
@@ -21,12 +21,14 @@ use ts_offset::Grid;
 const FRONT: usize = 9;
 
 /// How many of some cells, from the first on, have elements that stand before an end, where that of the first does: one
-/// at least. The first has this number among those that the stamps are of.
+/// at least. The first has this number among those that the stamps are of. They are sought from as many on as they
+/// mostly are.
 pub(crate) fn cells_before(
     cells: RowCells<'_>,
     stamps: &Stamps<'_>,
     number: usize,
     end: Option<Stamp>,
+    mostly: usize,
 ) -> usize
     requires some { 0 < cells.left }
     requires whole { length cells.bytes.now ≡ cells.left * cells.size }
@@ -45,7 +47,7 @@ pub(crate) fn cells_before(
         return cells.left;
     };
     match stamps {
-        Stamps::InCells => stamped_before(cells, end),
+        Stamps::InCells => stamped_before(cells, end, mostly),
         Stamps::OnGrid(grid, first) => offsets_before(
             grid,
             *first + number as u64,
@@ -56,7 +58,7 @@ pub(crate) fn cells_before(
 }
 
 // The same of cells that have their stamps, which rise: sought ever farther away, and then between.
-fn stamped_before(cells: RowCells<'_>, end: Stamp) -> usize
+fn stamped_before(cells: RowCells<'_>, end: Stamp, mostly: usize) -> usize
     requires some { 0 < cells.left }
     requires whole { length cells.bytes.now ≡ cells.left * cells.size }
     ensures low { 1 ≤ result }
@@ -72,17 +74,48 @@ fn stamped_before(cells: RowCells<'_>, end: Stamp) -> usize
         return 1;
     }
     let limit = end.units();
-    let mut low = 1;
+    let mut low = first_low(cells, limit, mostly);
     let mut high = cells.left;
+    let mut step = 1;
     while low < high {
-        let count = low + low.min((high - low + 1) / 2);
+        let count = low + step_within(step, high - low);
         if is_stamped_before(cells, count - 1, limit) {
             low = count;
+            step = step.saturating_add(step);
         } else {
             high = count - 1;
         }
     }
     low
+}
+
+// A step that leads no farther than half the way.
+#[inline(always)]
+fn step_within(step: usize, way: usize) -> usize
+    requires step { 0 < step }
+    requires way { 0 < way }
+    ensures some { 1 ≤ result }
+    ensures within { result ≤ way }
+{
+    let half = way - way / 2;
+    if step < half { step } else { half }
+}
+
+// As many as they mostly are, where those stand before a limit, or else one.
+#[inline(always)]
+fn first_low(cells: RowCells<'_>, limit: i64, mostly: usize) -> usize
+    requires wide { 9 ≤ cells.size }
+    requires some { 0 < cells.left }
+    requires whole { length cells.bytes.now ≡ cells.left * cells.size }
+    ensures low { 1 ≤ result }
+    ensures high { result ≤ cells.entry.left }
+    ensures has { 1 < result
+        → HasBefore limit (drop (cells.entry.size * (result - 1)) cells.entry.bytes.now) }
+{
+    if 1 < mostly && mostly <= cells.left && is_stamped_before(cells, mostly - 1, limit) {
+        return mostly;
+    }
+    1
 }
 
 // Whether the cell of a number has an element that stands before a limit.

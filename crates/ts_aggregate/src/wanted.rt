@@ -1,14 +1,20 @@
 // Which groups are asked for.
-ghost use Rattle.std.specs.Prelude.{◌≡◌, ℤ, ◌<ℤ◌, [], None};
+ghost use Rattle.std.specs.Prelude.{◌≡◌, ℤ, ◌<◌, ◌<ℤ◌, [], Some, None, true, false, IfSome, IfNone, pos};
 ghost use Rattle.ts_base.specs.Moment.{IsStamp};
-ghost use Rattle.ts_calendar.specs.Intervals.{IsBefore};
+ghost use Rattle.ts_pattern.specs.Runs.{flag, total};
+ghost use Rattle.ts_calendar.specs.Intervals.{IsBefore, start_at, is_on};
 ghost use Rattle.ts_offset.specs.Grid.{held_start};
 ghost use Rattle.ts_aggregate.specs.Groups.{asked_start, IsGoingOn, IsSpan};
 
 use crate::span::Span;
 use std::marker::Model;
 use ts_base::Stamp;
+use ts_calendar::Calendar;
 use ts_offset::Counter;
+use ts_pattern::Pattern;
+
+/// The number of the greatest stamp.
+const GREATEST: i64 = 25_340_230_079_999_999;
 
 /// Groups of elements by the on intervals of a calendar: those that start from one stamp to another, both included.
 #[derive(Drop)]
@@ -54,9 +60,9 @@ impl<'a> WantedIntervals<'a> {
     {
         let calendar = self.counter.calendar();
         let interval = calendar.interval_around(stamp);
-        if calendar.is_on(interval) {
+        if let Some(start) = on_start(calendar, interval) {
             return Span {
-                start: self.asked(calendar.start_of(interval)),
+                start: self.asked(start),
                 end: calendar.start_of(interval + 1),
             };
         }
@@ -66,11 +72,10 @@ impl<'a> WantedIntervals<'a> {
         }
     }
 
-    // A start, if it is there and among those that are asked for.
-    fn asked(&self, start: Option<Stamp>) -> Option<Stamp>
-        ensures { result ≡ asked_start self.now start }
+    // A start, if it is among those that are asked for.
+    fn asked(&self, start: Stamp) -> Option<Stamp>
+        ensures { result ≡ asked_start self.now (Some start) }
     {
-        let start = start?;
         if start.units() < self.from.units() || self.to.units() < start.units() {
             return None;
         }
@@ -90,12 +95,54 @@ impl<'a> WantedIntervals<'a> {
     }
 }
 
+// The start of an interval that is on, if it is; it is sought once.
+fn on_start(calendar: &Calendar, interval: i64) -> Option<Stamp>
+    ensures start { IfSome result (λ s. start_at calendar.now interval ≡ Some s) }
+    ensures on { IfSome result (λ s. is_on calendar.now interval ≡ true) }
+    ensures off { IfNone result (is_on calendar.now interval ≡ false) }
+{
+    let start = calendar.start_of(interval)?;
+    if start.units() < calendar.start().units() {
+        return None;
+    }
+    if is_flagged(calendar.pattern(), interval) {
+        Some(start)
+    } else {
+        None
+    }
+}
+
+// Whether an interval is on by the pattern.
+fn is_flagged(pattern: &Pattern, interval: i64) -> bool
+    ensures { result ≡ flag pattern.now.runs interval }
+{
+    let length = round_length(pattern);
+    pattern.on(interval.rem_euclid(length as i64) as u32)
+}
+
+// The number of intervals after which a pattern repeats.
+fn round_length(pattern: &Pattern) -> u32
+    ensures value { result ≡ total pattern.now.runs }
+    ensures some { 0 < result }
+{
+    pattern.length()
+}
+
 // The last stamp before an end, or the greatest where there is none.
 fn last_before(end: Option<Stamp>) -> Stamp
     ensures { (t : ℤ) → IsStamp t → result <ℤ t → IsBefore t end → ⊥ }
 {
     match end {
         Some(end) => Stamp::of(end.units() - 1).unwrap_or(end),
-        None => Stamp::greatest(),
+        None => greatest_stamp(),
     }
+}
+
+fn greatest_stamp() -> Stamp
+    ensures { result ≡ pos 25_340_230_079_999_999 }
+{
+    let Some(stamp) = Stamp::of(GREATEST) else {
+        unreachable!()
+    };
+    stamp
 }

@@ -11,7 +11,7 @@ use Rattle.ts_aggregate.proofs.column.take_totals.Goals as goal
 
 pub returns-in-Count-clause-value : goal.returns-in-Count-clause-value
 returns-in-Count-clause-value c = λ zs are few.
-    let totals = c.args.totals in
+    let totals = c.args.totals.now in
     let fits : FitsSigned w128 totals.sum = search rules in
     let same = to_z-of_z w128 totals.sum fits in
     c.add.ensures.value (omega (arith, few, are.count))
@@ -23,7 +23,7 @@ returns-in-Count-clause-value c = λ zs are few.
 
 pub returns-in-Sum-clause-value : goal.returns-in-Sum-clause-value
 returns-in-Sum-clause-value c = λ zs are few.
-    let totals = c.args.totals in
+    let totals = c.args.totals.now in
     let fits : FitsSigned w128 totals.sum = search rules in
     let same = to_z-of_z w128 totals.sum fits in
     c.add-in-Sum.ensures.value (omega (arith, few, are.count))
@@ -36,7 +36,7 @@ returns-in-Sum-clause-value c = λ zs are few.
 
 pub returns-in-Avg-clause-value : goal.returns-in-Avg-clause-value
 returns-in-Avg-clause-value c = λ zs are few.
-    let totals = c.args.totals in
+    let totals = c.args.totals.now in
     let fits : FitsSigned w128 totals.sum = search rules in
     let same = to_z-of_z w128 totals.sum fits in
     c.add-in-Avg.ensures.value (omega (arith, few, are.count))

@@ -1,6 +1,5 @@
 -- The items so far have taken the values of their columns; the tallies of the others are as they were.
 use Rattle.std.proofs.Common.{◌≡◌, ℕ, ◌<◌, ◌≤◌, ◌^◌, All, get_or, length}
-use Rattle.std.specs.Prelude.{IfSome}
 use Rattle.ts_expr.specs.declared.tally.Tally.{Tally}
 use Rattle.ts_expr.specs.Running.{count_of}
 use Rattle.ts_aggregate.specs.KnownColumns.{IsKnown}
@@ -13,6 +12,6 @@ invariant-loop-number l = record {
   few : All (λ t. count_of t ≤ 2 ^ 32) l.tallies;
   taken : (k : ℕ) (d : Tally) → k < l.number → ItemTakes l.columns l.row_cells.front l.row_cells.bytes.now (get_or l.items k an_item)
       (get_or l.initial.tallies k d) (get_or l.tallies k d);
-  known : IfSome l.last (IsKnown l.columns l.row_cells);
+  known : l.column < length l.columns → IsKnown l.columns l.row_cells l.column l.totals;
   rest : (k : ℕ) (d : Tally) → l.number ≤ k → get_or l.tallies k d ≡ get_or l.initial.tallies k d;
 }

@@ -12,8 +12,8 @@ pub is_stamped_before-requires-clause-within : goal.is_stamped_before-requires-c
 is_stamped_before-requires-clause-within c =
     let r = c.args.cells in
     let i = c.loop-low.invariant in
-    let number : ℕ = c.loop-low.low + c.min.result - 1 in
-    let below : number < r.left = omega (arith, c.min.ensures, c.loop-low-test.true, i.one, i.within) in
+    let number : ℕ = c.loop-low.low + c.step_within.result - 1 in
+    let below : number < r.left = omega (arith, c.step_within.ensures.within, c.loop-low-test.true, i.one, i.within) in
     omega (arith, more_fit number r.left r.size (length r.bytes.now) below c.requires.whole, mul_comm r.size number)
 
 pub returns-clause-before : goal.returns-clause-before

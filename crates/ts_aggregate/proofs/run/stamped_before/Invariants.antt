@@ -7,6 +7,7 @@ abbrev pub invariant-loop-low : goal.invariant-loop-low
 invariant-loop-low l = record {
   one : 1 ≤ l.low;
   order : l.low ≤ l.high;
+  some : 1 ≤ l.step;
   within : l.high ≤ l.cells.left;
   has : 1 < l.low → HasBefore l.limit (drop (l.cells.size * (l.low - 1)) l.cells.bytes.now);
 }

@@ -1,4 +1,4 @@
-use Rattle.std.proofs.Common.{◌≡◌, ◌∙◌, sym, ap, subst, arith, true, false, Option, None, ℤ, pos, ◌+ℤ◌, to_z, of_z, w64}
+use Rattle.std.proofs.Common.{◌≡◌, ◌∙◌, sym, ap, subst, arith, true, false, Option, Some, None, ℤ, pos, ◌+ℤ◌, to_z, of_z, w64}
 use Rattle.std.proofs.lemmas.Int.{ints}
 use Rattle.ts_calendar.specs.Plan.{CalendarPlan}
 use Rattle.ts_calendar.specs.Intervals.{is_on, start_at}
@@ -7,8 +7,8 @@ use Rattle.ts_aggregate.specs.Groups.{WantedPlan, asked_start, IsSpan}
 use Rattle.ts_aggregate.proofs.SpanLemmas.{span_on, span_off}
 use Rattle.ts_aggregate.proofs.wanted.WantedIntervals.span_from.Goals as goal
 
-pub returns-then-is_on-clause-span : goal.returns-then-is_on-clause-span
-returns-then-is_on-clause-span c =
+pub returns-in-Some-clause-span : goal.returns-in-Some-clause-span
+returns-in-Some-clause-span c =
     let asked : CalendarPlan → WantedPlan = λ plan. record { calendar = plan; from = c.self.inside.from; to = c.self.inside.to } in
     let plan : CalendarPlan = c.calendar-calendar.result.now in
     let own : plan ≡ c.self.inside.counter.now = c.calendar-calendar.ensures in
@@ -16,14 +16,15 @@ returns-then-is_on-clause-span c =
     let wanted : WantedPlan = asked plan in
     let k : ℤ = c.interval_around-interval.result in
     let e = c.interval_around-interval.ensures in
+    let s : ℤ = c.in-Some.start in
     let same : to_z w64 (of_z w64 k) ≡ k = omega (arith, ints, e.near) in
     let next : to_z w64 (of_z w64 (to_z w64 (of_z w64 k) +ℤ pos 1)) ≡ k +ℤ pos 1 = omega (arith, ints, e.near) in
-    let on : is_on plan k ≡ true = sym (c.is_on.ensures ∙ ap (is_on plan) same) ∙ c.if-is_on.true in
+    let on : is_on plan k ≡ true = ap (is_on plan) (sym same) ∙ c.in-Some.ensures.on in
+    let at : start_at plan k ≡ Some s = ap (start_at plan) (sym same) ∙ c.in-Some.ensures.start in
     let start : c.asked.result ≡ asked_start wanted (start_at plan k) =
-    c.asked.ensures ∙ ap (λ (w : WantedPlan). asked_start w c.start_of.result) (sym seen)
-    ∙ ap (asked_start wanted) (c.start_of.ensures ∙ ap (start_at plan) same) in
-    let end : c.start_of-then-is_on.result ≡ start_at plan (k +ℤ pos 1) = c.start_of-then-is_on.ensures ∙ ap (start_at plan) next in
-    subst (λ (w : WantedPlan). IsSpan w c.args.stamp (record { start = c.asked.result; end = c.start_of-then-is_on.result })) seen
+    c.asked.ensures ∙ ap (λ (w : WantedPlan). asked_start w (Some s)) (sym seen) ∙ ap (asked_start wanted) (sym at) in
+    let end : c.start_of.result ≡ start_at plan (k +ℤ pos 1) = c.start_of.ensures ∙ ap (start_at plan) next in
+    subst (λ (w : WantedPlan). IsSpan w c.args.stamp (record { start = c.asked.result; end = c.start_of.result })) seen
     (subst (λ (o : Option ℤ). IsSpan wanted c.args.stamp (record { start = c.asked.result; end = o })) (sym end)
     (span_on wanted c.args.stamp k c.asked.result e.laid e.around on start))
 
@@ -37,7 +38,7 @@ returns-clause-span c =
     let k : ℤ = c.interval_around-interval.result in
     let e = c.interval_around-interval.ensures in
     let same : to_z w64 (of_z w64 k) ≡ k = omega (arith, ints, e.near) in
-    let off : is_on plan k ≡ false = sym (c.is_on.ensures ∙ ap (is_on plan) same) ∙ c.if-is_on.false in
+    let off : is_on plan k ≡ false = ap (is_on plan) (sym same) ∙ c.in_default.ensures.off in
     let end : c.cal_stamp.result ≡ cal_stamp plan c.args.stamp 1 = c.cal_stamp.ensures.value
     ∙ ap (λ (p : CalendarPlan). cal_stamp p c.args.stamp 1) (sym own) in
     subst (λ (w : WantedPlan). IsSpan w c.args.stamp (record { start = None; end = c.cal_stamp.result })) seen
