@@ -1,11 +1,14 @@
 -- Cells one behind the other in two parts, and how far their elements stand before an end.
-use Rattle.std.proofs.Common.{◌≡◌, ℕ, zero, suc, ◌+◌, ◌-◌, ◌*◌, ◌<◌, ◌≤◌, ℤ, ◌<ℤ◌, Bool, true, false, not, Option, Some, None, List, [], ◌∷◌, length, map, take, take-take, drop, drop-drop, refl, sym, ap, subst, ◌∙◌, arith}
+use Rattle.std.proofs.Common.{◌≡◌, ℕ, zero, suc, ◌+◌, ◌-◌, ◌*◌, ◌<◌, ◌≤◌, ℤ, ◌<ℤ◌, Bool, true, false, not, Option, Some, None, List, [], ◌∷◌, length, map, take, take-take, drop, drop-drop, refl, inl, inr, sym, ap, subst, ◌∙◌, arith}
 use Rattle.std.specs.Prelude.{IfSome, int_lt, nat_le, slice_index, slice_get}
 use Rattle.std.specs.Int.{w64, cast_signed, from_be_bytes}
 use Rattle.std.proofs.lemmas.Int.{ints}
 use Rattle.std.proofs.lemmas.Bool.Decides.{nat_tests}
 use Rattle.std.specs.Borrow.{Bor}
 use Rattle.std.proofs.lemmas.List.{take_all, drop_all, drop-take}
+use Rattle.std.proofs.lemmas.Bool.{cases_lt}
+use Rattle.std.proofs.lemmas.Option.{same_Some}
+use Rattle.ts_sheets.proofs.StartLemmas.{stamps_rise}
 use Rattle.std.proofs.Math.Nat.{suc-mul, mul_comm}
 use Rattle.ts_base.specs.Moment.{IsStamp}
 use Rattle.ts_row.specs.declared.kind.Column.{Column}
@@ -20,7 +23,7 @@ use Rattle.ts_entry.specs.declared.stamps.Stamps.{Stamps}
 use Rattle.ts_entry.specs.declared.stamps.Stamps.TheVariants.{InCells, OnGrid}
 use Rattle.ts_entry.specs.Rows.{IsCellWith, AreCellsWith, AreStamped, elements_in, row_if_any}
 use Rattle.ts_entry.proofs.CallerLemmas.{units_are}
-use Rattle.ts_aggregate.specs.Groups.{AreBefore, AreOrdered, IsFirstBefore, HasBefore}
+use Rattle.ts_aggregate.specs.Groups.{AreBefore, AreOrdered, IsFirstBefore, HasBefore, IsAhead}
 
 -- so many cells have no more bytes than all of them
 pub some_fit : (n left size len : ℕ) → n ≤ left → len ≡ left * size → n * size ≤ len
@@ -101,6 +104,37 @@ start_before grid laid end behind is i s low at =
     let side = lower_side grid laid end behind is i s at in
     let under : nat_le behind i ≡ false = grind (arith, nat_tests) in
     int_lt-true s end (not_false (int_lt s end) (sym side ∙ under))
+
+-- that of one which isn't greater than another whose start comes before it
+pub up_to_last : (grid : GridPlan) → IsLaid grid.calendar → (end : ℤ) (n : ℕ) (t : ℤ) → stamp_of grid n ≡ Some t → t <ℤ end → (i : ℕ) (s : ℤ)
+    → i ≤ n → stamp_of grid i ≡ Some s → s <ℤ end
+up_to_last grid laid end n t own less i s le is = elim (cases_lt i n) [
+  | inl below ↦ let up = stamps_rise grid laid i n s t below is own in omega (arith, ints, up, less)
+  | inr above ↦
+      let same : i ≡ n = omega (arith, le, above) in
+      subst (λ (z : ℤ). z <ℤ end) (same_Some t s (sym own ∙ ap (stamp_of grid) (sym same) ∙ is)) less
+]
+
+-- the first of what is left behind some, and the second
+pub first_left : (xs : List ℤ) (n : ℕ) → slice_get (drop n xs) 0 ≡ slice_get xs n
+first_left [] zero = refl
+first_left [] (suc n) = refl
+first_left (x ∷ xs) zero = refl
+first_left (x ∷ xs) (suc n) = first_left xs n
+
+pub second_left : (xs : List ℤ) (n : ℕ) → slice_get (drop 1 (drop n xs)) 0 ≡ slice_get xs (suc n)
+second_left [] zero = refl
+second_left [] (suc n) = refl
+second_left (x ∷ xs) zero = first_left xs 0
+second_left (x ∷ xs) (suc n) = second_left xs n
+
+-- a stamp that is known on a grid is that of its cell
+pub ahead_on : (grid : Bor GridPlan) (first number count : ℕ) (next : Option ℤ) → IfSome next (λ s. stamp_of grid.now (first + number + count) ≡ Some s)
+    → IsAhead (OnGrid grid first) (number + count) next
+ahead_on grid first number count None at = tt
+ahead_on grid first number count (Some s) at = λ cell t has.
+    let same : first + (number + count) ≡ first + number + count = omega arith in
+    same_Some t s (sym has.1 ∙ ap (stamp_of grid.now) same ∙ at)
 
 -- no end is there
 pub none_behind : (es : List Element) → AreBefore None es

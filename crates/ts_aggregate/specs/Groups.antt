@@ -13,6 +13,8 @@ use Rattle.ts_calendar.specs.Intervals.{IsBefore, IsLaid}
 use Rattle.ts_sheets.specs.Chain.{AreEarlier, AreLater}
 use Rattle.ts_offset.specs.Walk.{IsOnStart}
 use Rattle.ts_offset.specs.Grid.{held_start}
+use Rattle.ts_entry.specs.declared.stamps.Stamps.{Stamps}
+use Rattle.ts_entry.specs.Stamps.{HasStamp}
 use Rattle.ts_entry.specs.Intervals.{Group, grouped, held_from}
 use Rattle.ts_base.specs.Answer.{most_rows}
 use Rattle.ts_expr.specs.declared.item.BoundItem.{BoundItem}
@@ -141,6 +143,10 @@ IsFirstBefore end (found ∷ others) = IfSome found (λ e. IsBefore e.0 end)
 pub record HasBefore (limit : ℤ) (cells : List ℕ) : Type 0 where
   pub there : slice_index cells 0 ≡ 1
   pub before : cast_signed w64 (from_be_bytes w64 (take 8 (drop 1 cells))) <ℤ limit
+
+-- a stamp, if it is known, is that of a cell of a number
+abbrev pub IsAhead : Stamps → ℕ → Option ℤ → Type 0
+IsAhead stamps number next = IfSome next (λ s. (cell : List ℕ) (t : ℤ) → HasStamp stamps number cell t → t ≡ s)
 
 -- a cell has an element that isn't hidden
 abbrev pub is_seen : Option Row → Bool

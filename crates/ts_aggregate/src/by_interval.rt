@@ -1,20 +1,20 @@
 // One that groups the elements that it is handed.
-ghost use Rattle.std.specs.Prelude.{◌≡◌, ℕ, ◌+◌, ◌-◌, ◌*◌, ◌^◌, ◌<◌, ◌≤◌, min, [], ◌∷◌, Option, None, OnOk, IfOk, List};
-ghost use Rattle.std.specs.Prelude.{length, map, take};
+ghost use Rattle.std.specs.Prelude.{◌≡◌, ℕ, ◌+◌, ◌-◌, ◌*◌, ◌^◌, ◌<◌, ◌≤◌, min, [], ◌∷◌, Option, None, Some, OnOk, IfOk, List};
+ghost use Rattle.std.specs.Prelude.{ℤ, length, map, take};
 ghost use Rattle.ts_row.specs.Row.{Row as TheRow};
 ghost use Rattle.ts_row.specs.Element.{Element};
 ghost use Rattle.ts_row.specs.RowType.{width_of};
 ghost use Rattle.ts_calendar.specs.Intervals.{IsBefore};
-ghost use Rattle.ts_entry.specs.Stamps.{IsNear};
+ghost use Rattle.ts_entry.specs.Stamps.{HasStamp, IsNear};
 ghost use Rattle.ts_entry.specs.Rows.{IsCellWith, AreCellsWith, AreStamped, elements_in, row_if_any, rows_in};
 ghost use Rattle.ts_base.specs.Answer.{most_rows};
 ghost use Rattle.ts_aggregate.specs.Column.{AreRowCells};
 ghost use Rattle.ts_aggregate.specs.Fold.{HasTaken};
-ghost use Rattle.ts_aggregate.specs.Groups.{AreGrouped, grouping, is_seen, IsClosed, IsReady, MayTake, Stands};
+ghost use Rattle.ts_aggregate.specs.Groups.{AreGrouped, grouping, is_seen, IsAhead, IsClosed, IsReady, MayTake, Stands};
 
 use crate::Folding;
 use crate::cells::RowCells;
-use crate::run::cells_before;
+use crate::run::{Piece, cells_before};
 use crate::span::{Span, is_before};
 use crate::wanted::WantedIntervals;
 use std::alloc::AllocError;
@@ -147,41 +147,64 @@ impl<'a, 'b, V: ElementVisitor> ByInterval<'a, 'b, V> {
         Ok(())
     }
 
-    // Takes the first of some cells, and with it those behind it that belong to its group; tells how many they are.
+    // Takes the first of some cells, whose stamp may be known ahead, and with it those behind it that belong to its group;
+    // tells which they are.
     fn take_group(
         &mut self,
         kind: &RowType,
         cells: RowCells<'_>,
         stamps: &Stamps<'_>,
         number: usize,
-    ) -> Result<usize, AllocError>
+        ahead: Option<Stamp>,
+    ) -> Result<Piece, AllocError>
         requires whole { AreRowCells kind.now.columns cells }
         requires some { 0 < cells.left }
         requires near { IsNear stamps.now }
         requires number { number + cells.left < 2 ^ 63 }
+        requires ahead { IsAhead stamps.now number ahead }
         ensures same { self.new.out.ghost_name ≡ self.old.out.ghost_name }
-        ensures count { IfOk result (λ n. (1 ≤ n) × (n ≤ cells.entry.left)) }
-        ensures took { IfOk result (λ n. (found : List (Option Element))
+        ensures count { IfOk result (λ p. (1 ≤ p.count) × (p.count ≤ cells.entry.left)) }
+        ensures next { IfOk result (λ p. IsAhead stamps.now (number + p.count) p.next) }
+        ensures took { IfOk result (λ p. (found : List (Option Element))
             → AreCellsWith kind.now.columns cells.entry.front cells.entry.bytes.now (map row_if_any found)
             → AreStamped stamps.now cells.entry.size number cells.entry.bytes.now found
             → AreGrouped V.took kind.now.columns
             (grouping self.old.wanted.now self.old.span self.old.folding.now self.old.count)
-            self.old.out.now (elements_in (take n found))
+            self.old.out.now (elements_in (take p.count found))
             (grouping self.new.wanted.now self.new.span self.new.folding.now self.new.count) self.new.out.now) }
     {
         let (cell, _) = cells.bytes.split_at(cells.size);
         if !is_shown(kind, cell, cells.front) {
-            return Ok(1);
+            return Ok(Piece {
+                count: 1,
+                next: None,
+            });
         }
-        let Some(stamp) = stamps.stamp(number, cell) else {
-            return Ok(1);
+        let Some(stamp) = stamp_at(stamps, number, cell, ahead) else {
+            return Ok(Piece {
+                count: 1,
+                next: None,
+            });
         };
         self.reach(stamp)?;
-        let count = cells_before(cells, stamps, number, self.span.end, self.mostly);
-        self.mostly = count;
-        let (piece, _) = cells.bytes.split_at(count * cells.size);
-        self.fold(kind, piece, cells.front)?;
-        Ok(count)
+        let piece = cells_before(cells, stamps, number, self.span.end, self.mostly);
+        self.mostly = piece.count;
+        let (part, _) = cells.bytes.split_at(piece.count * cells.size);
+        self.fold(kind, part, cells.front)?;
+        Ok(piece)
+    }
+}
+
+// The stamp of the element in a cell of a number, which may be known ahead.
+fn stamp_at(stamps: &Stamps<'_>, number: usize, cell: &[u8], ahead: Option<Stamp>) -> Option<Stamp>
+    requires near { IsNear stamps.now }
+    requires number { number < 2 ^ 63 }
+    requires ahead { IsAhead stamps.now number ahead }
+    ensures { (stamp : ℤ) → HasStamp stamps.now number cell.now stamp → result ≡ Some stamp }
+{
+    match ahead {
+        Some(stamp) => Some(stamp),
+        None => stamps.stamp(number, cell),
     }
 }
 
@@ -218,6 +241,7 @@ impl<'a, 'b, V: ElementVisitor> RowVisitor for ByInterval<'a, 'b, V> {
         let mut left = cells.len() / size;
         let mut rest = cells;
         let mut number = 0;
+        let mut ahead = None;
         while left > 0 {
             let near = RowCells {
                 size,
@@ -225,11 +249,12 @@ impl<'a, 'b, V: ElementVisitor> RowVisitor for ByInterval<'a, 'b, V> {
                 left,
                 bytes: rest,
             };
-            let count = self.take_group(kind, near, stamps, number)?;
-            let (_, behind) = rest.split_at(count * size);
+            let piece = self.take_group(kind, near, stamps, number, ahead)?;
+            let (_, behind) = rest.split_at(piece.count * size);
             rest = behind;
-            left -= count;
-            number += count;
+            left -= piece.count;
+            number += piece.count;
+            ahead = piece.next;
         }
         Ok(())
     }

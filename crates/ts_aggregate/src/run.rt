@@ -1,6 +1,6 @@
 // How far a group goes on in cells.
 ghost use Rattle.std.specs.Prelude.{◌≡◌, ℤ, ◌+◌, ◌*◌, ◌^◌, ◌<◌, ◌≤◌, ◌<ℤ◌, ℕ, Some, Option, IsTrue, List, length, map};
-ghost use Rattle.std.specs.Prelude.{◌-◌, take, drop};
+ghost use Rattle.std.specs.Prelude.{◌-◌, IfSome, take, drop};
 ghost use Rattle.ts_row.specs.declared.kind.Column.{Column};
 ghost use Rattle.ts_row.specs.RowType.{width_of};
 ghost use Rattle.ts_row.specs.Element.{Element};
@@ -9,9 +9,10 @@ ghost use Rattle.ts_calendar.specs.Intervals.{IsLaid};
 ghost use Rattle.ts_offset.specs.Grid.{stamp_of};
 ghost use Rattle.ts_entry.specs.Stamps.{IsNear};
 ghost use Rattle.ts_entry.specs.Rows.{AreCellsWith, AreStamped, elements_in, row_if_any};
-ghost use Rattle.ts_aggregate.specs.Groups.{AreBefore, AreOrdered, IsFirstBefore, HasBefore};
+ghost use Rattle.ts_aggregate.specs.Groups.{AreBefore, AreOrdered, IsFirstBefore, HasBefore, IsAhead};
 
 use crate::cells::RowCells;
+use crate::span::is_before;
 use ts_base::Stamp;
 use ts_entry::Stamps;
 use ts_irregular::units_at;
@@ -20,8 +21,17 @@ use ts_offset::Grid;
 /// The bytes of a cell that has its stamp, before its row.
 const FRONT: usize = 9;
 
-/// How many of some cells, from the first on, have elements that stand before an end, where that of the first does: one
-/// at least. The first has this number among those that the stamps are of. They are sought from as many on as they
+/// The first of some cells.
+#[derive(Clone, Copy, Debug)]
+pub(crate) struct Piece {
+    /// How many they are.
+    pub count: usize,
+    /// The stamp of the cell behind them, where it is known.
+    pub next: Option<Stamp>,
+}
+
+/// As many of some cells, from the first on, as have elements that stand before an end, where that of the first does:
+/// one at least. The first has this number among those that the stamps are of. They are sought from as many on as they
 /// mostly are.
 pub(crate) fn cells_before(
     cells: RowCells<'_>,
@@ -29,30 +39,38 @@ pub(crate) fn cells_before(
     number: usize,
     end: Option<Stamp>,
     mostly: usize,
-) -> usize
+) -> Piece
     requires some { 0 < cells.left }
     requires whole { length cells.bytes.now ≡ cells.left * cells.size }
     requires near { IsNear stamps.now }
     requires number { number + cells.left < 2 ^ 63 }
-    ensures low { 1 ≤ result }
-    ensures high { result ≤ cells.entry.left }
+    ensures low { 1 ≤ result.count }
+    ensures high { result.count ≤ cells.entry.left }
+    ensures next { IsAhead stamps.now (number + result.count) result.next }
     ensures before { (columns : List Column) (found : List (Option Element))
         → cells.entry.size ≡ cells.entry.front + width_of columns
         → AreCellsWith columns cells.entry.front cells.entry.bytes.now (map row_if_any found)
         → AreStamped stamps.now cells.entry.size number cells.entry.bytes.now found
-        → IsFirstBefore end found → AreOrdered (elements_in (take result found))
-        → AreBefore end (elements_in (take result found)) }
+        → IsFirstBefore end found → AreOrdered (elements_in (take result.count found))
+        → AreBefore end (elements_in (take result.count found)) }
 {
     let Some(end) = end else {
-        return cells.left;
+        return Piece {
+            count: cells.left,
+            next: None,
+        };
     };
     match stamps {
-        Stamps::InCells => stamped_before(cells, end, mostly),
-        Stamps::OnGrid(grid, first) => offsets_before(
+        Stamps::InCells => Piece {
+            count: stamped_before(cells, end, mostly),
+            next: None,
+        },
+        Stamps::OnGrid(grid, first) => piece_before(
             grid,
             *first + number as u64,
             cells.left,
             end,
+            mostly,
         ),
     }
 }
@@ -130,6 +148,56 @@ fn is_stamped_before(cells: RowCells<'_>, number: usize, limit: i64) -> bool
 }
 
 // The same of cells on a grid, of which the first has this offset.
+fn piece_before(grid: &Grid<'_>, offset: u64, left: usize, end: Stamp, mostly: usize) -> Piece
+    requires some { 0 < left }
+    requires limit { offset + left < 2 ^ 64 }
+    ensures low { 1 ≤ result.count }
+    ensures high { result.count ≤ left }
+    ensures before { (k : ℕ) (s : ℤ) → IsLaid grid.now.calendar → 0 < k → k < result.count
+        → stamp_of grid.now (offset + k) ≡ Some s → s <ℤ end }
+    ensures next { IfSome result.next (λ s. stamp_of grid.now (offset + result.count) ≡ Some s) }
+{
+    if let Some(piece) = usual_piece(grid, offset, left, end, mostly) {
+        return piece;
+    }
+    Piece {
+        count: offsets_before(grid, offset, left, end),
+        next: None,
+    }
+}
+
+// The piece of as many as they mostly are, where it is that: its last cell stands before the end, and the next one
+// doesn't.
+fn usual_piece(
+    grid: &Grid<'_>,
+    offset: u64,
+    left: usize,
+    end: Stamp,
+    mostly: usize,
+) -> Option<Piece>
+    requires limit { offset + left < 2 ^ 64 }
+    ensures low { IfSome result (λ p. 1 ≤ p.count) }
+    ensures high { IfSome result (λ p. p.count ≤ left) }
+    ensures before { IfSome result (λ p. (k : ℕ) (s : ℤ) → IsLaid grid.now.calendar → 0 < k → k < p.count
+        → stamp_of grid.now (offset + k) ≡ Some s → s <ℤ end) }
+    ensures next { IfSome result (λ p. IfSome p.next (λ s. stamp_of grid.now (offset + p.count) ≡ Some s)) }
+{
+    if mostly < 1 || left < mostly {
+        return None;
+    }
+    let mut starts = grid.starts_from(offset + (mostly - 1) as u64);
+    let last = starts.next()?;
+    let next = starts.next()?;
+    if is_before(last, Some(end)) && !is_before(next, Some(end)) {
+        return Some(Piece {
+            count: mostly,
+            next: Some(next),
+        });
+    }
+    None
+}
+
+// How many of cells on a grid do, found by how many starts come before the end.
 fn offsets_before(grid: &Grid<'_>, offset: u64, left: usize, end: Stamp) -> usize
     requires some { 0 < left }
     requires limit { offset + left < 2 ^ 64 }

@@ -16,29 +16,29 @@ split_at-requires g c =
 pub split_at-requires-2 : goal.split_at-requires-2
 split_at-requires-2 g c =
     let r = c.args.cells in
-    some_fit c.cells_before-count.result r.left r.size (length r.bytes.now) c.cells_before-count.ensures.high c.requires.whole.whole
+    some_fit c.cells_before-piece.result.count r.left r.size (length r.bytes.now) c.cells_before-piece.ensures.high c.requires.whole.whole
 
 pub fold-requires-clause-whole : goal.fold-requires-clause-whole
 fold-requires-clause-whole g c =
     let r = c.args.cells in
-    let count = c.cells_before-count.result in (
+    let count = c.cells_before-piece.result.count in (
       count,
       ap length c.split_at-2.ensures.front
           ∙ length-take-le (count * r.size) r.bytes.now
-          (some_fit count r.left r.size (length r.bytes.now) c.cells_before-count.ensures.high c.requires.whole.whole)
+          (some_fit count r.left r.size (length r.bytes.now) c.cells_before-piece.ensures.high c.requires.whole.whole)
           ∙ ap (λ (n : ℕ). count * n) c.requires.whole.size,
     )
 
 pub fold-requires-clause-few : goal.fold-requires-clause-few
 fold-requires-clause-few g c =
     let r = c.args.cells in
-    let count = c.cells_before-count.result in
+    let count = c.cells_before-piece.result.count in
     omega (
       arith,
       ap length c.split_at-2.ensures.front,
       length-take-le (count * r.size) r.bytes.now
-          (some_fit count r.left r.size (length r.bytes.now) c.cells_before-count.ensures.high c.requires.whole.whole),
-      some_fit count r.left r.size (length r.bytes.now) c.cells_before-count.ensures.high c.requires.whole.whole,
+          (some_fit count r.left r.size (length r.bytes.now) c.cells_before-piece.ensures.high c.requires.whole.whole),
+      some_fit count r.left r.size (length r.bytes.now) c.cells_before-piece.ensures.high c.requires.whole.whole,
       c.requires.whole.few,
     )
 
@@ -57,8 +57,8 @@ returns-in_default-clause-took g c = λ found are stamped.
     let v = c.args.self.now in
     let r = c.args.cells in
     none_stamped g.V.ElementVisitor.took g.met.V.ElementVisitor.none c.args.kind.now.columns r.front r.size c.args.number c.args.stamps.now
-    r.bytes.now found (grouping v.wanted.now v.span v.folding.now v.count) v.out.now c.stamp.result c.in_default.is
-    (λ s has. c.stamp.ensures s (subst (λ (l : List ℕ). HasStamp c.args.stamps.now c.args.number l s) (sym c.split_at.ensures.front) has)) stamped
+    r.bytes.now found (grouping v.wanted.now v.span v.folding.now v.count) v.out.now c.stamp_at.result c.in_default.is
+    (λ s has. c.stamp_at.ensures s (subst (λ (l : List ℕ). HasStamp c.args.stamps.now c.args.number l s) (sym c.split_at.ensures.front) has)) stamped
 
 pub returns-clause-took : goal.returns-clause-took
 returns-clause-took g c = λ found are stamped.
@@ -68,17 +68,17 @@ returns-clause-took g c = λ found are stamped.
     let w = c.fold.new.self in
     let on = c.in_ok-fold.ensures in
     let r = c.args.cells in
-    let count = c.cells_before-count.result in
+    let count = c.cells_before-piece.result.count in
     piece_taken g.V.ElementVisitor.took columns r.front r.size c.args.number c.args.stamps.now r.bytes.now
     (grouping v.wanted.now v.span v.folding.now v.count) (grouping u.wanted.now u.span u.folding.now u.count)
-    (grouping w.wanted.now w.span w.folding.now w.count) v.out.now u.out.now w.out.now c.in-Some.stamp c.stamp.result
+    (grouping w.wanted.now w.span w.folding.now w.count) v.out.now u.out.now w.out.now c.in-Some.stamp c.stamp_at.result
     (omega (arith, one_fits r.left r.size (length r.bytes.now) c.requires.some c.requires.whole.whole, c.requires.whole.size, c.requires.whole.some))
     c.requires.whole.size
     (λ f is. sym (c.is_shown.ensures f (subst (λ (l : List ℕ). IsCellWith columns r.front l f) (sym c.split_at.ensures.front) is))
     ∙ c.if-not-is_shown.false)
-    (λ s has. c.stamp.ensures s (subst (λ (l : List ℕ). HasStamp c.args.stamps.now c.args.number l s) (sym c.split_at.ensures.front) has)) c.in-Some.is c.in_ok-reach.ensures.ready c.in_ok-reach.ensures.here
-    on.wanted on.span on.count on.out count found c.cells_before-count.ensures.low
-    (λ first ordered. c.cells_before-count.ensures.before columns found c.requires.whole.size are stamped first ordered)
+    (λ s has. c.stamp_at.ensures s (subst (λ (l : List ℕ). HasStamp c.args.stamps.now c.args.number l s) (sym c.split_at.ensures.front) has)) c.in-Some.is c.in_ok-reach.ensures.ready c.in_ok-reach.ensures.here
+    on.wanted on.span on.count on.out count found c.cells_before-piece.ensures.low
+    (λ first ordered. c.cells_before-piece.ensures.before columns found c.requires.whole.size are stamped first ordered)
     (on.takes (map row_if_any (take count found))
     (subst (λ (l : List ℕ). AreCellsWith columns r.front l (map row_if_any (take count found))) (sym c.split_at-2.ensures.front)
     (cells_front columns r.front count (count * r.size) r.bytes.now found (ap (λ (n : ℕ). count * n) c.requires.whole.size) are)))

@@ -41,6 +41,7 @@ loop-left-init g c =
       bound = omega (arith, few_cells (len / size) size len some all, c.requires.few);
       few = c.requires.few;
       same = refl;
+      ahead = tt;
       taken = λ found are. turn_first g.V.ElementVisitor.took g.met.V.ElementVisitor.none g.met.V.ElementVisitor.«then»
           c.args.kind.now.columns c.args.front c.args.stamps.now found (grouping v.wanted.now v.span v.folding.now v.count) v.out.now
           c.args.cells.now are;
@@ -72,14 +73,15 @@ loop-left-preserved g c =
     let u = c.take_group.new.self in
     let columns : List Column = c.args.kind.now.columns in
     let size : ℕ = c.args.front + c.width.result in
-    let count = c.in_ok-count.count in
-    let done = c.in_ok-count.ensures in
+    let count = c.in_ok-piece.piece.count in
+    let done = c.in_ok-piece.ensures in
     let same : size ≡ c.args.front + width_of columns = ap (λ (w : ℕ). c.args.front + w) c.width.ensures.value in
     record {
       whole = less_cells count c.loop-left.left size (length c.loop-left.rest.now) _ done.count.1 i.whole (omega (arith, c.split_at.ensures.back_len));
       bound = omega (arith, i.bound, done.count.1);
       few = omega (arith, i.few, c.split_at.ensures.back_len);
       same = done.same ∙ i.same;
+      ahead = done.next;
       taken = λ found are. turn_next g.V.ElementVisitor.took g.met.V.ElementVisitor.none g.met.V.ElementVisitor.«then» columns c.args.front
           c.args.stamps.now found (grouping v.wanted.now v.span v.folding.now v.count) v.out.now c.loop-left.number count (count * size)
           c.loop-left.rest.now c.split_at.result.1.now (grouping w.wanted.now w.span w.folding.now w.count)
