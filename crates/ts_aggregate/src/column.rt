@@ -1,5 +1,5 @@
 // A tally takes the values of a column.
-ghost use Rattle.std.specs.Prelude.{◌≡◌, ◌+◌, ◌*◌, ◌^◌, ◌≤◌, IfOk, OnOk, IsTrue, IfSome, IsSome, true, false, ℤ, List};
+ghost use Rattle.std.specs.Prelude.{◌≡◌, ◌+◌, ◌*◌, ◌^◌, ◌≤◌, IfOk, OnOk, IsTrue, IsSome, true, false, ℤ, List};
 ghost use Rattle.std.specs.Prelude.{unsigned_abs, fold, map, length};
 ghost use Rattle.std.specs.List.{list_all};
 ghost use Rattle.ts_row.specs.declared.value.Value.TheVariants.{Null, Number, Text};
@@ -13,7 +13,7 @@ ghost use Rattle.ts_aggregate.specs.Totals.{AreKnown, AreTotals};
 ghost use Rattle.ts_aggregate.specs.Totals as ThatTotals;
 
 use crate::cells::Cells;
-use crate::numbers::{Bests, MOST_FOLDED, Totals, count_values, number, totals_of};
+use crate::numbers::{Bests, MOST_FOLDED, Totals, count_values, find_totals_of, number};
 use crate::texts::{best_text, text_of};
 use std::alloc::{AllocError, Global};
 use ts_base::Bytes;
@@ -57,14 +57,16 @@ pub(crate) fn take_column(
             Ok(false)
         }
         _ => {
-            *totals = totals_for(is_best(tally), cells, kind, wanted);
+            find_totals(is_best(tally), cells, kind, wanted, totals);
             take_totals(tally, totals);
             Ok(true)
         }
     }
 }
 
-// Takes the values of a column of texts.
+// Takes the values of a column of texts. It stands by itself, as do the first and the last value, so that what they need
+// isn't made where numbers are counted.
+#[inline(never)]
 fn take_texts(
     alloc: Global,
     tally: &mut Tally,
@@ -97,16 +99,16 @@ fn is_best(tally: &Tally) -> bool
     matches!(tally, Tally::Min(_) | Tally::Max(_))
 }
 
-// What is known of the numbers of a column, from nothing.
-fn totals_for(needed: bool, cells: Cells<'_>, kind: ColumnKind, wanted: bool) -> Totals
+// Looks at the numbers of a column.
+fn find_totals(needed: bool, cells: Cells<'_>, kind: ColumnKind, wanted: bool, totals: &mut Totals)
     requires few { cells.left ≤ 4064 }
     requires whole { AreWhole cells }
     requires width { cells.position.width + 1 ≡ column_width kind }
     requires numbers { is_text_kind kind ≡ false }
-    ensures known { AreKnown (read_numbers kind cells.entry) result }
-    ensures needed { IsTrue needed → IsSome result.bests }
+    ensures known { AreKnown (read_numbers kind cells.entry) totals.new }
+    ensures needed { IsTrue needed → IsSome totals.new.bests }
 {
-    totals_of(cells, kind, needed || wanted)
+    find_totals_of(cells, kind, needed || wanted, totals);
 }
 
 /// Whether totals are enough for a tally.
@@ -242,6 +244,7 @@ fn best_text_value(
 }
 
 // Keeps the value that is kept, or else the first of a column.
+#[inline(never)]
 #[tactic(auto, using(crate::proofs::ColumnLemmas::first_stays))]
 fn keep_first(
     alloc: Global,
@@ -279,6 +282,7 @@ fn set_first(
 }
 
 // Keeps the last of a column, where it has one.
+#[inline(never)]
 fn keep_last(
     alloc: Global,
     kept: &mut Value,

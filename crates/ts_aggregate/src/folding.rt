@@ -47,6 +47,7 @@ impl<'a> Folding<'a> {
     }
 
     /// What the items make of the rows that it has taken, of which the sums of 2^32 fit. It then has taken none.
+    #[inline(always)]
     pub fn finish(&mut self) -> Result<Row, AllocError>
         ensures made { IfOk result (λ row. (rows : List TheRow) → HasTaken self.old rows → length rows ≤ most_folded
             → row ≡ folded_row self.old.binding.items rows) }

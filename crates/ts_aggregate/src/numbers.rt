@@ -75,33 +75,33 @@ pub(crate) fn count_values(cells: Cells<'_>) -> u64
     count
 }
 
-/// What is known of the numbers of a column, with the least and the greatest where they are sought. There is a loop of
-/// its own for each size, which isn't asked for at each number.
-pub(crate) fn totals_of(cells: Cells<'_>, kind: ColumnKind, sought: bool) -> Totals
+/// Finds out what is known of the numbers of a column, with the least and the greatest where they are sought. There is a
+/// loop of its own for each size, which isn't asked for at each number.
+pub(crate) fn find_totals_of(cells: Cells<'_>, kind: ColumnKind, sought: bool, totals: &mut Totals)
     requires few { cells.left ≤ 4064 }
     requires whole { AreWhole cells }
     requires width { cells.position.width + 1 ≡ column_width kind }
     requires numbers { is_text_kind kind ≡ false }
-    ensures known { AreKnown (read_numbers kind cells.entry) result }
-    ensures sought { IsTrue sought → IsSome result.bests }
+    ensures known { AreKnown (read_numbers kind cells.entry) totals.new }
+    ensures sought { IsTrue sought → IsSome totals.new.bests }
 {
-    sized_totals(cells, size_of(kind), sought)
+    find_sized_totals(cells, size_of(kind), sought, totals);
 }
 
 // The same of numbers of a size. It stands by itself, so that its loops have all registers.
 #[inline(never)]
-fn sized_totals(cells: Cells<'_>, size: NumberSize, sought: bool) -> Totals
+fn find_sized_totals(cells: Cells<'_>, size: NumberSize, sought: bool, totals: &mut Totals)
     requires few { cells.left ≤ 4064 }
     requires whole { AreWhole cells }
     requires width { cells.position.width ≡ bytes_in size }
-    ensures known { AreKnown (sized_numbers size cells.entry) result }
-    ensures sought { IsTrue sought → IsSome result.bests }
+    ensures known { AreKnown (sized_numbers size cells.entry) totals.new }
+    ensures sought { IsTrue sought → IsSome totals.new.bests }
 {
     if cells.position.place == cells.position.front {
-        totals_if_sought(cells, size, sought, true)
-    } else {
-        totals_if_sought(cells, size, sought, false)
+        *totals = totals_if_sought(cells, size, sought, true);
+        return;
     }
+    *totals = totals_if_sought(cells, size, sought, false);
 }
 
 // The same by loops for a column that is the first of its row, and by others for one that isn't.
