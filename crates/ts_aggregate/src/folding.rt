@@ -124,6 +124,7 @@ impl<'a> RowVisitor for Folding<'a> {
 }
 
 // What the items make of what is known of the rows; then nothing is known.
+#[inline(always)]
 fn renew_all(
     alloc: Global,
     items: &[BoundItem],
