@@ -157,13 +157,34 @@ fn piece_before(grid: &Grid<'_>, offset: u64, left: usize, end: Stamp, mostly: u
         → stamp_of grid.now (offset + k) ≡ Some s → s <ℤ end }
     ensures next { IfSome result.next (λ s. stamp_of grid.now (offset + result.count) ≡ Some s) }
 {
-    if let Some(piece) = usual_piece(grid, offset, left, end, mostly) {
+    if mostly < 2 {
+        if let Some(piece) = lone_piece(grid, offset, end) {
+            return piece;
+        }
+    } else if let Some(piece) = usual_piece(grid, offset, left, end, mostly) {
         return piece;
     }
     Piece {
         count: offsets_before(grid, offset, left, end),
         next: None,
     }
+}
+
+// The piece of one cell, where the next one doesn't stand before the end.
+fn lone_piece(grid: &Grid<'_>, offset: u64, end: Stamp) -> Option<Piece>
+    requires limit { offset + 1 < 2 ^ 64 }
+    ensures one { IfSome result (λ p. p.count ≡ 1) }
+    ensures next { IfSome result (λ p. IfSome p.next (λ s. stamp_of grid.now (offset + p.count) ≡ Some s)) }
+{
+    let mut starts = grid.starts_from(offset + 1);
+    let next = starts.next()?;
+    if is_before(next, Some(end)) {
+        return None;
+    }
+    Some(Piece {
+        count: 1,
+        next: Some(next),
+    })
 }
 
 // The piece of as many as they mostly are, where it is that: its last cell stands before the end, and the next one
