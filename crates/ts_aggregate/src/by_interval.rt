@@ -80,6 +80,7 @@ impl<'a, 'b, V: ElementVisitor> ByInterval<'a, 'b, V> {
     }
 
     // Hands on what the fold makes of the open group, if one is open.
+    #[inline(always)]
     fn close(&mut self) -> Result<(), AllocError>
         ensures same { self.new.out.ghost_name ≡ self.old.out.ghost_name }
         ensures closed { OnOk result (IsClosed V.took

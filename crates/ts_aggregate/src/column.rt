@@ -128,6 +128,7 @@ pub(crate) fn is_told(tally: &Tally, totals: &Totals) -> bool
 }
 
 /// Takes numbers of which this is known, and enough.
+#[inline(always)]
 pub(crate) fn take_totals(tally: &mut Tally, totals: &Totals)
     requires count { count_of tally.old ≤ 2 ^ 32 }
     requires digits { unsigned_abs totals.now.sum ≤ totals.now.count * 10 ^ 28 }
