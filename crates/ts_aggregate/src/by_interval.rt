@@ -18,9 +18,10 @@ use crate::run::{Piece, cells_before};
 use crate::span::{Span, is_before};
 use crate::wanted::WantedIntervals;
 use std::alloc::AllocError;
+use std::mem;
 use ts_base::Stamp;
 use ts_entry::{ElementVisitor, RowVisitor, Stamps};
-use ts_row::{Row, RowType};
+use ts_row::{Row, RowType, Value};
 
 /// The most rows of a reply.
 pub(crate) const MOST_ROWS: u64 = 1_000_000;
@@ -39,6 +40,8 @@ pub(crate) struct ByInterval<'a, 'b, V> {
     count: u64,
     /// How many cells the last piece had.
     mostly: usize,
+    /// Memory for the values of a row.
+    room: Vec<Value>,
 }
 
 impl<'a, 'b, V: ElementVisitor> ByInterval<'a, 'b, V> {
@@ -57,6 +60,7 @@ impl<'a, 'b, V: ElementVisitor> ByInterval<'a, 'b, V> {
             → Stands (grouping result.wanted.now result.span result.folding.now result.count) [] }
     {
         let span = wanted.first_span();
+        let room = folding.no_values();
         ByInterval {
             wanted,
             span,
@@ -64,6 +68,7 @@ impl<'a, 'b, V: ElementVisitor> ByInterval<'a, 'b, V> {
             out,
             count: 0,
             mostly: 1,
+            room,
         }
     }
 
@@ -90,8 +95,11 @@ impl<'a, 'b, V: ElementVisitor> ByInterval<'a, 'b, V> {
         let Some(start) = self.span.start else {
             return Ok(());
         };
-        let row = self.folding.finish()?;
+        let empty = self.folding.no_values();
+        let room = mem::replace(&mut self.room, empty);
+        let row = self.folding.finish_in(room)?;
         self.hand_on(start, &row)?;
+        self.room = row.into_values();
         Ok(())
     }
 
