@@ -8,9 +8,8 @@ use Rattle.ts_row.specs.declared.value.Value.{Value}
 use Rattle.ts_row.specs.declared.value.Value.TheVariants.{Null, Number, Text}
 use Rattle.ts_row.specs.Decoding.{number_in}
 use Rattle.ts_expr.specs.declared.tally.Tally.TheVariants as tally
-use Rattle.ts_expr.specs.Binding.{is_text_kind}
+use Rattle.ts_expr.specs.Aggregates.{is_text_kind, number_of, total, earlier, later}
 use Rattle.ts_expr.specs.Sums.{Sums}
-use Rattle.ts_expr.specs.Fold.{number_of, total, earlier, later}
 use Rattle.ts_expr.specs.Running.{with_value, with_sums}
 use Rattle.ts_expr.proofs.CallerLemmas.{counted_at_once, summed_at_once, mean_at_once}
 use Rattle.ts_aggregate.specs.Column.{read_value, text_of, better}

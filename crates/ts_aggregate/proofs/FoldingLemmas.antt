@@ -8,15 +8,14 @@ use Rattle.std.proofs.lemmas.Bool.{cases_lt}
 use Rattle.std.proofs.Math.Nat.{mul-div_cancel, suc-mul}
 use Rattle.ts_row.specs.declared.kind.Column.{Column}
 use Rattle.ts_row.specs.declared.value.Value.{Value}
-use Rattle.ts_row.specs.RowType.{column_width, width_of, is_kind}
-use Rattle.ts_row.specs.Row.{Row}
+use Rattle.ts_row.specs.Row.{column_width, width_of, is_kind, Row}
 use Rattle.ts_row.specs.Decoding.{number_in}
 use Rattle.ts_row.proofs.ValueBytesLemmas.{column_width-positive}
 use Rattle.ts_entry.specs.Rows.{AreCellsWith, rows_in}
 use Rattle.ts_expr.specs.declared.function.Function.TheVariants.{Sum}
 use Rattle.ts_expr.specs.declared.item.BoundItem.{BoundItem}
 use Rattle.ts_expr.specs.declared.tally.Tally.{Tally}
-use Rattle.ts_expr.specs.Fold.{values_of}
+use Rattle.ts_expr.specs.Aggregates.{values_of}
 use Rattle.ts_expr.specs.Running.{tally_of, after, count_of, value_of, with_value}
 use Rattle.ts_expr.proofs.CallerLemmas.{tally_all, values_all, values_few, count_few}
 use Rattle.ts_aggregate.specs.declared.cells.ValuePosition.{ValuePosition}

@@ -3,9 +3,9 @@ use Rattle.std.proofs.Common.{◌≡◌, ◌⊎◌, inl, inr, ◌≤◌, ℤ, �
 use Rattle.std.specs.Prelude.{filter, int_lt, nat_lt}
 use Rattle.std.proofs.lemmas.Int.{by_lt_z, ints}
 use Rattle.std.proofs.lemmas.List.Elements.{filter-append}
-use Rattle.ts_row.specs.Element.{Element}
+use Rattle.ts_row.specs.Row.{Element}
 use Rattle.ts_calendar.proofs.StampLemmas.{int_lt_yes, int_lt_no}
-use Rattle.ts_entry.specs.Intervals.{Group, is_start}
+use Rattle.ts_entry.specs.Entry.{Group, is_start}
 
 -- a claim of each of some things
 abbrev pub Each : {A : Type 0} → (A → Type 0) → List A → Type 0

@@ -8,17 +8,14 @@ use Rattle.ts_base.specs.Moment.{IsStamp}
 use Rattle.ts_base.specs.declared.refusal.Refusal.{Refusal}
 use Rattle.ts_base.specs.declared.refusal.Refusal.TheVariants.{TooLarge}
 use Rattle.ts_row.specs.declared.kind.Column.{Column}
-use Rattle.ts_row.specs.Element.{Element, seen}
+use Rattle.ts_row.specs.Row.{Element, seen}
 use Rattle.ts_calendar.proofs.StampLemmas.{int_lt_no, int_lt-false}
-use Rattle.ts_sheets.specs.Range.{is_within, within_range}
-use Rattle.ts_offset.specs.Walk.{on_starts}
-use Rattle.ts_offset.specs.Grid.{held_start}
-use Rattle.ts_offset.specs.Counting.{starts_between}
-use Rattle.ts_entry.specs.Intervals.{Group, grouped, held_from, by_interval}
+use Rattle.ts_sheets.specs.Stamped.{is_within, within_range}
+use Rattle.ts_offset.specs.Grid.{on_starts, held_start, starts_between}
+use Rattle.ts_entry.specs.Entry.{Group, grouped, held_from, by_interval}
 use Rattle.ts_base.specs.Answer.{most_rows, within_rows}
-use Rattle.ts_expr.specs.Binding.{Binding}
+use Rattle.ts_expr.specs.Aggregates.{Binding, folded_row}
 use Rattle.ts_expr.specs.declared.item.BoundItem.{BoundItem}
-use Rattle.ts_expr.specs.Fold.{folded_row}
 use Rattle.ts_aggregate.specs.Fold.{Fold}
 use Rattle.ts_entry.specs.Handed.{AreHanded}
 use Rattle.ts_aggregate.specs.Groups.{WantedPlan, is_asked, Grouping, closed, made_of, AreOrdered, AreGiven, Stands, AreMade, AreGrouped, IsClosed}

@@ -4,11 +4,11 @@ use Rattle.std.proofs.lemmas.List.{get_or_read, get_or_default, length-map}
 use Rattle.ts_row.specs.declared.kind.Column.{Column}
 use Rattle.ts_row.specs.declared.kind.ColumnKind.{ColumnKind}
 use Rattle.ts_row.specs.declared.value.Value.TheVariants.{Number}
-use Rattle.ts_row.specs.RowType.{column_width, width_of}
+use Rattle.ts_row.specs.Row.{column_width, width_of}
 use Rattle.ts_row.specs.Decoding.{number_in}
 use Rattle.ts_expr.specs.declared.item.BoundItem.{BoundItem}
 use Rattle.ts_expr.specs.declared.tally.Tally.{Tally}
-use Rattle.ts_expr.specs.Binding.{is_text_kind}
+use Rattle.ts_expr.specs.Aggregates.{is_text_kind}
 use Rattle.ts_expr.specs.Running.{count_of, with_value}
 use Rattle.ts_aggregate.specs.declared.cells.RowCells.{RowCells}
 use Rattle.ts_aggregate.specs.declared.cells.ValuePosition.{ValuePosition}

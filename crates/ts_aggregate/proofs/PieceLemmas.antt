@@ -12,10 +12,9 @@ use Rattle.ts_sheets.proofs.StartLemmas.{stamps_rise}
 use Rattle.std.proofs.Math.Nat.{suc-mul, mul_comm}
 use Rattle.ts_base.specs.Moment.{IsStamp}
 use Rattle.ts_row.specs.declared.kind.Column.{Column}
-use Rattle.ts_row.specs.RowType.{width_of}
-use Rattle.ts_row.specs.Element.{Element}
-use Rattle.ts_cells.specs.Cell.{stamp_bytes}
-use Rattle.ts_calendar.specs.Intervals.{IsBefore, IsLaid}
+use Rattle.ts_row.specs.Row.{width_of, Element}
+use Rattle.ts_cells.specs.IrregularPage.{stamp_bytes}
+use Rattle.ts_calendar.specs.Calendars.{IsBefore, IsLaid}
 use Rattle.ts_calendar.proofs.StampLemmas.{int_lt-true}
 use Rattle.ts_offset.specs.Grid.{GridPlan, stamp_of, starts_before}
 use Rattle.ts_clip.proofs.GridOffsetLemmas.{lower_side}

@@ -14,14 +14,13 @@ use Rattle.ts_row.specs.declared.kind.ColumnKind.TheVariants.{SmallInt, Integer,
 use Rattle.ts_row.specs.declared.kind.Column.{Column}
 use Rattle.ts_row.specs.declared.value.Value.{Value}
 use Rattle.ts_row.specs.declared.value.Value.TheVariants.{Null, Number, Text}
-use Rattle.ts_row.specs.RowType.{column_width, width_of, is_kind}
-use Rattle.ts_row.specs.Row.{Values, Row, holds_size, fits}
+use Rattle.ts_row.specs.Row.{column_width, width_of, is_kind, Values, Row, holds_size, fits}
 use Rattle.ts_row.specs.Encoding.{values_bytes, with_mark, row_bytes}
 use Rattle.ts_row.specs.Decoding.{is_mark, number_in, filled_in, value_in, put_first, values_in, all_zero, text_in}
 use Rattle.ts_row.proofs.RowBytesLemmas.{values_in-values_bytes, with_mark-none, mark_told, length-row_bytes}
 use Rattle.ts_entry.specs.Rows.{IsCellWith, AreCellsWith, rows_in}
-use Rattle.ts_expr.specs.Fold.{is_null, value_at}
-use Rattle.ts_expr.specs.Fold as fold
+use Rattle.ts_expr.specs.Aggregates.{is_null, value_at}
+use Rattle.ts_expr.specs.Aggregates as fold
 use Rattle.ts_aggregate.specs.declared.cells.ValuePosition.{ValuePosition}
 use Rattle.ts_aggregate.specs.Column.{has_value, bytes_of, found_in, read_value, is_small}
 use Rattle.ts_aggregate.proofs.CellsLemmas.{seen, unseen}

@@ -6,13 +6,10 @@ use Rattle.std.proofs.lemmas.Int.{by_lt_z, ints}
 use Rattle.std.proofs.lemmas.Bool.{and_parts}
 use Rattle.std.proofs.lemmas.Option.{same_Some}
 use Rattle.ts_base.specs.Moment.{IsStamp}
-use Rattle.ts_calendar.specs.Plan.{CalendarPlan}
-use Rattle.ts_calendar.specs.Intervals.{IsLaid, IsAround, IsBefore, start_at, starts_from, is_on}
+use Rattle.ts_calendar.specs.Calendars.{CalendarPlan, IsLaid, IsAround, IsBefore, start_at, starts_from, is_on}
 use Rattle.ts_calendar.proofs.StampLemmas.{int_lt-true, int_lt-false}
 use Rattle.ts_calendar.proofs.LawLemmas.{starts-rise, starts-whole, starts-around}
-use Rattle.ts_offset.specs.Walk.{on_starts}
-use Rattle.ts_offset.specs.Grid.{held_start, IsHeldFrom}
-use Rattle.ts_offset.specs.Counting.{cal_stamp}
+use Rattle.ts_offset.specs.Grid.{on_starts, held_start, IsHeldFrom, cal_stamp}
 use Rattle.ts_offset.proofs.HeldLemmas.{held-off, on-exists}
 use Rattle.ts_offset.proofs.OwnLemmas.{held-from, from-held}
 use Rattle.ts_offset.proofs.ListedLemmas.{listed-start, start-listed, listed-rise}

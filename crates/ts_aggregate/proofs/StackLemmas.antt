@@ -6,9 +6,8 @@ use Rattle.std.proofs.lemmas.List.{length-map}
 use Rattle.ts_space.specs.declared.place.Place.{Place}
 use Rattle.ts_space.specs.Place.{count_of}
 use Rattle.ts_row.specs.declared.kind.Column.{Column}
-use Rattle.ts_row.specs.Row.{Row}
-use Rattle.ts_row.specs.Element.{Element}
-use Rattle.ts_sheets.specs.Range.{is_within, within_range}
+use Rattle.ts_row.specs.Row.{Row, Element}
+use Rattle.ts_sheets.specs.Stamped.{is_within, within_range}
 use Rattle.ts_regular.specs.Places as regular
 use Rattle.ts_regular.proofs.CutsLemmas.{told_count}
 use Rattle.ts_series.proofs.ChainLemmas.{counted}
@@ -17,8 +16,7 @@ use Rattle.ts_page.specs.declared.page.Page.{Page}
 use Rattle.ts_offset.specs.declared.shape.Shape.TheVariants.{Irregular, Regular}
 use Rattle.ts_clip.specs.Series.{HaveOnPlaces, ArePagesOf}
 use Rattle.ts_offset.specs.Shape.{IsLaidOut}
-use Rattle.ts_expr.specs.Binding.{Binding}
-use Rattle.ts_expr.specs.Fold.{folded_row}
+use Rattle.ts_expr.specs.Aggregates.{Binding, folded_row}
 use Rattle.ts_aggregate.specs.declared.series_pages.Stack.{Stack}
 use Rattle.ts_aggregate.specs.Fold.{Fold, HasTaken, most_folded, Takes}
 use Rattle.ts_aggregate.specs.Stacks.{IsFoldOf, pages_of}

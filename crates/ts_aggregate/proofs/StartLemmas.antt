@@ -4,14 +4,11 @@ use Rattle.std.specs.Prelude.{filter}
 use Rattle.std.specs.List.{slice_get}
 use Rattle.std.proofs.lemmas.Int.{ints}
 use Rattle.std.proofs.lemmas.Option.{same_Some}
-use Rattle.ts_row.specs.Element.{Element}
-use Rattle.ts_calendar.specs.Plan.{CalendarPlan}
-use Rattle.ts_calendar.specs.Intervals.{IsLaid}
-use Rattle.ts_offset.specs.Walk.{IsOnStart, on_starts}
-use Rattle.ts_offset.specs.Grid.{held_start}
-use Rattle.ts_offset.specs.Counting.{starts_between}
+use Rattle.ts_row.specs.Row.{Element}
+use Rattle.ts_calendar.specs.Calendars.{CalendarPlan, IsLaid}
+use Rattle.ts_offset.specs.Grid.{IsOnStart, on_starts, held_start, starts_between}
 use Rattle.ts_offset.proofs.ListedLemmas.{listed-start, listed-rise}
-use Rattle.ts_entry.specs.Intervals.{grouped, held_from}
+use Rattle.ts_entry.specs.Entry.{grouped, held_from}
 use Rattle.ts_aggregate.specs.Groups.{WantedPlan, is_asked, asked_start, group_start, AreHeldBy, IsOpen, closed, open_group}
 use Rattle.ts_aggregate.proofs.GroupLemmas.{Each, IsOneOf, AreRising, groups_same, groups_empty, kept_less, kept_more, kept_none, earlier_same, earlier_all, earlier_last}
 

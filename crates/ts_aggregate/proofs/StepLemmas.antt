@@ -8,19 +8,16 @@ use Rattle.std.proofs.lemmas.List.Filters.{length-filter_both}
 use Rattle.std.proofs.lemmas.Option.{same_Some}
 use Rattle.ts_base.specs.Moment.{IsStamp}
 use Rattle.ts_row.specs.declared.kind.Column.{Column}
-use Rattle.ts_row.specs.Row.{Row}
-use Rattle.ts_row.specs.Element.{Element, seen}
+use Rattle.ts_row.specs.Row.{Row, Element, seen}
 use Rattle.ts_row.specs.declared.value.Value.{Value}
-use Rattle.ts_calendar.specs.Plan.{CalendarPlan}
-use Rattle.ts_calendar.specs.Intervals.{IsBefore}
-use Rattle.ts_sheets.specs.Chain.{AreEarlier, AreLater}
+use Rattle.ts_calendar.specs.Calendars.{CalendarPlan, IsBefore}
+use Rattle.ts_sheets.specs.Stamped.{AreEarlier, AreLater}
 use Rattle.ts_sheets.proofs.OrderLemmas.{earlier_both, earlier_than, earlier_back}
 use Rattle.ts_offset.specs.Grid.{held_start}
 use Rattle.ts_offset.proofs.OwnLemmas.{from-held}
-use Rattle.ts_entry.specs.Intervals.{Group}
+use Rattle.ts_entry.specs.Entry.{Group}
 use Rattle.ts_base.specs.Answer.{most_rows}
-use Rattle.ts_expr.specs.Binding.{Binding}
-use Rattle.ts_expr.specs.Fold.{folded_row, values_of, value_at, is_null}
+use Rattle.ts_expr.specs.Aggregates.{Binding, folded_row, values_of, value_at, is_null}
 use Rattle.ts_expr.specs.Running.{after, tally_of}
 use Rattle.ts_expr.specs.declared.item.BoundItem.{BoundItem}
 use Rattle.ts_expr.proofs.CallerLemmas.{values_all}

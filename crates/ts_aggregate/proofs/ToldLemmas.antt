@@ -9,25 +9,23 @@ use Rattle.ts_base.specs.Moment.{IsStamp}
 use Rattle.ts_space.specs.declared.place.Place.{Place}
 use Rattle.ts_space.specs.Place.{IsRising, count_of}
 use Rattle.ts_row.specs.declared.kind.Column.{Column}
-use Rattle.ts_row.specs.Element.{Element}
+use Rattle.ts_row.specs.Row.{Element}
 use Rattle.ts_cells.specs.IrregularPage.{AreInOrder, AreElements}
 use Rattle.ts_cells.specs.IrregularPage as cells
-use Rattle.ts_sheets.specs.Chain.{AreLater}
+use Rattle.ts_sheets.specs.Stamped.{AreLater, stamped, HaveStarts}
 use Rattle.ts_sheets.proofs.OrderLemmas.{later_of, pages_in_order, rising_tail}
-use Rattle.ts_regular.specs.Offsets.{OffsetElement, AreRising}
+use Rattle.ts_regular.specs.RegularPage.{OffsetElement, AreRising}
 use Rattle.ts_regular.specs.Places as regular
 use Rattle.ts_regular.proofs.OffsetLemmas.{AreMore}
 use Rattle.ts_regular.proofs.PlaceLemmas.{pages_rise}
 use Rattle.ts_regular.proofs.CutsLemmas.{told_count}
 use Rattle.ts_series.proofs.ChainLemmas.{counted}
-use Rattle.ts_calendar.specs.Intervals.{IsLaid}
-use Rattle.ts_offset.specs.Walk.{on_starts}
-use Rattle.ts_offset.specs.Grid.{GridPlan, stamp_of}
+use Rattle.ts_calendar.specs.Calendars.{IsLaid}
+use Rattle.ts_offset.specs.Grid.{on_starts, GridPlan, stamp_of}
 use Rattle.ts_offset.specs.declared.shape.Shape.{Shape}
 use Rattle.ts_offset.specs.declared.shape.Shape.TheVariants.{Irregular, Regular}
 use Rattle.ts_offset.proofs.StartLemmas.{on-line}
 use Rattle.ts_offset.proofs.ListedLemmas.{start-listed}
-use Rattle.ts_sheets.specs.Stamped.{stamped, HaveStarts}
 use Rattle.ts_regular_edits.proofs.StampLemmas.{some_start, stamped_cons}
 use Rattle.ts_sheets.proofs.StartLemmas.{stamps_rise}
 use Rattle.ts_clip.specs.Series.{HaveElements}

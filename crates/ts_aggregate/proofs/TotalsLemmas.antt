@@ -8,11 +8,11 @@ use Rattle.std.proofs.lemmas.Bool.{and_parts, cases_Bool}
 use Rattle.std.proofs.lemmas.Bool.Decides.{nat_tests}
 use Rattle.ts_row.specs.declared.kind.ColumnKind.{ColumnKind}
 use Rattle.ts_row.specs.declared.kind.ColumnKind.TheVariants.{SmallInt, Integer, BigInt, Decimal, VarChar}
-use Rattle.ts_row.specs.RowType.{short_digits, column_width}
+use Rattle.ts_row.specs.Row.{short_digits, column_width}
 use Rattle.ts_row.specs.Decoding.{number_in}
 use Rattle.ts_row.specs.declared.value.Value.{Value}
 use Rattle.ts_row.specs.declared.value.Value.TheVariants.{Null, Number, Text}
-use Rattle.ts_expr.specs.Binding.{is_text_kind}
+use Rattle.ts_expr.specs.Aggregates.{is_text_kind}
 use Rattle.ts_aggregate.specs.declared.numbers.Bests.{Bests}
 use Rattle.ts_aggregate.specs.declared.numbers.Gathered.{Gathered}
 use Rattle.ts_aggregate.specs.declared.numbers.NumberSize.TheVariants.{Eight, Sixteen}

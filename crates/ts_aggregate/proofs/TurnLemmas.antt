@@ -4,10 +4,8 @@ use Rattle.std.proofs.lemmas.List.{take-append-drop}
 use Rattle.std.proofs.lemmas.Option.{same_Some}
 use Rattle.std.proofs.Math.Nat.{suc-mul}
 use Rattle.ts_row.specs.declared.kind.Column.{Column}
-use Rattle.ts_row.specs.Row.{Row}
-use Rattle.ts_row.specs.RowType.{width_of}
-use Rattle.ts_row.specs.Element.{Element}
-use Rattle.ts_calendar.specs.Intervals.{IsBefore}
+use Rattle.ts_row.specs.Row.{Row, width_of, Element}
+use Rattle.ts_calendar.specs.Calendars.{IsBefore}
 use Rattle.ts_entry.specs.declared.stamps.Stamps.{Stamps}
 use Rattle.ts_entry.specs.Stamps.{HasStamp}
 use Rattle.ts_entry.specs.Rows.{IsCellWith, AreCellsWith, AreStamped, AreCellsOf, elements_in, row_if_any, rows_in}

@@ -11,9 +11,9 @@ use Rattle.ts_row.specs.declared.kind.ColumnKind.{ColumnKind}
 use Rattle.ts_row.specs.declared.kind.ColumnKind.TheVariants.{VarChar}
 use Rattle.ts_row.specs.declared.value.Value.{Value}
 use Rattle.ts_row.specs.declared.value.Value.TheVariants.{Null, Number, Text}
-use Rattle.ts_row.specs.RowType.{width_of}
+use Rattle.ts_row.specs.Row.{width_of}
 use Rattle.ts_row.specs.Decoding.{is_mark, number_in}
-use Rattle.ts_expr.specs.Fold.{lesser, greater}
+use Rattle.ts_expr.specs.Aggregates.{lesser, greater}
 use Rattle.ts_aggregate.specs.declared.cells.RowCells.{RowCells}
 use Rattle.ts_aggregate.specs.declared.cells.ValuePosition.{ValuePosition}
 use Rattle.ts_aggregate.specs.declared.cells.Cells.{Cells}

@@ -2,11 +2,10 @@
 use Rattle.std.specs.Prelude.{◌≡◌, ℕ, ◌+◌, ◌≤◌, ◌^◌, List, [], ◌++◌, length, All}
 use Rattle.ts_row.specs.declared.kind.Column.{Column}
 use Rattle.ts_row.specs.Row.{Row}
-use Rattle.ts_expr.specs.Binding.{Binding}
+use Rattle.ts_expr.specs.Aggregates.{Binding, folded_row}
 use Rattle.ts_expr.specs.declared.tally.Tally.{Tally}
 use Rattle.ts_expr.specs.declared.item.BoundItem.{BoundItem}
 use Rattle.ts_expr.specs.Running.{after, count_of}
-use Rattle.ts_expr.specs.Fold.{folded_row}
 
 -- what contracts see of a fold: the list that it is of, with its columns, and what is known so far for each item
 pub record Fold : Type 0 where

@@ -4,11 +4,11 @@ use Rattle.std.proofs.Common.{◌≡◌, ℕ, ◌≤◌, ℤ, List, [], ◌∷�
 use Rattle.std.proofs.Common.{append-nil, append_assoc}
 use Rattle.std.proofs.Math.Nat.{le_refl, le_trans, lt_of_le_of_lt, suc-le-suc_iff}
 use Rattle.ts_row.specs.declared.kind.Column.{Column}
-use Rattle.ts_row.specs.Element.{Element, seen}
-use Rattle.ts_sheets.specs.Chain.{AreLater}
-use Rattle.ts_entry.specs.Intervals.{Group}
+use Rattle.ts_row.specs.Row.{Element, seen}
+use Rattle.ts_sheets.specs.Stamped.{AreLater}
+use Rattle.ts_entry.specs.Entry.{Group}
 use Rattle.ts_expr.specs.declared.item.BoundItem.{BoundItem}
-use Rattle.ts_expr.specs.Binding.{Binding}
+use Rattle.ts_expr.specs.Aggregates.{Binding}
 use Rattle.ts_aggregate.specs.Groups.{WantedPlan, Grouping, AreGiven, AreOrdered, AreGrouped, AreMade, GoesOn, Stands}
 use Rattle.ts_aggregate.specs.Groups.{closed, made_of}
 

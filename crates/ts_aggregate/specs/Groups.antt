@@ -5,20 +5,17 @@ use Rattle.std.specs.Prelude.{if◌then◌else◌, IfSome, Option, Some, None, L
 use Rattle.std.specs.Prelude.{slice_index, take, drop}
 use Rattle.std.specs.Int.{w64, from_be_bytes, cast_signed}
 use Rattle.ts_base.specs.Moment.{IsStamp}
-use Rattle.ts_row.specs.Row.{Row}
-use Rattle.ts_row.specs.Element.{Element, seen}
+use Rattle.ts_row.specs.Row.{Row, Element, seen}
 use Rattle.ts_row.specs.declared.kind.Column.{Column}
-use Rattle.ts_calendar.specs.Plan.{CalendarPlan}
-use Rattle.ts_calendar.specs.Intervals.{IsBefore, IsLaid}
-use Rattle.ts_sheets.specs.Chain.{AreEarlier, AreLater}
-use Rattle.ts_offset.specs.Walk.{IsOnStart}
-use Rattle.ts_offset.specs.Grid.{held_start}
+use Rattle.ts_calendar.specs.Calendars.{CalendarPlan, IsBefore, IsLaid}
+use Rattle.ts_sheets.specs.Stamped.{AreEarlier, AreLater}
+use Rattle.ts_offset.specs.Grid.{IsOnStart, held_start}
 use Rattle.ts_entry.specs.declared.stamps.Stamps.{Stamps}
 use Rattle.ts_entry.specs.Stamps.{HasStamp}
-use Rattle.ts_entry.specs.Intervals.{Group, grouped, held_from}
+use Rattle.ts_entry.specs.Entry.{Group, grouped, held_from}
 use Rattle.ts_base.specs.Answer.{most_rows}
 use Rattle.ts_expr.specs.declared.item.BoundItem.{BoundItem}
-use Rattle.ts_expr.specs.Fold.{folded_row}
+use Rattle.ts_expr.specs.Aggregates.{folded_row}
 use Rattle.ts_aggregate.specs.declared.span.Span.{Span}
 use Rattle.ts_aggregate.specs.Fold.{Fold, HasTaken, Takes}
 

@@ -3,9 +3,9 @@ use Rattle.std.specs.Prelude.{◌≡◌, ℕ, ◌+◌, ◌-◌, ℤ, false, List
 use Rattle.ts_row.specs.declared.kind.Column.{Column}
 use Rattle.ts_row.specs.declared.kind.ColumnKind.{ColumnKind}
 use Rattle.ts_row.specs.declared.kind.ColumnKind.TheVariants.{Integer}
-use Rattle.ts_row.specs.RowType.{column_width, width_of}
+use Rattle.ts_row.specs.Row.{column_width, width_of}
 use Rattle.ts_row.specs.Decoding.{number_in}
-use Rattle.ts_expr.specs.Binding.{is_text_kind}
+use Rattle.ts_expr.specs.Aggregates.{is_text_kind}
 use Rattle.ts_aggregate.specs.declared.cells.RowCells.{RowCells}
 use Rattle.ts_aggregate.specs.declared.cells.ValuePosition.{ValuePosition}
 use Rattle.ts_aggregate.specs.declared.numbers.Totals.{Totals}

@@ -1,11 +1,9 @@
 -- Series whose pages were read, each folded by itself.
 use Rattle.std.specs.Prelude.{◌≡◌, ℕ, ◌^◌, ◌<◌, ℤ, List, length, map, take, drop}
 use Rattle.ts_page.specs.declared.page.Page.{Page}
-use Rattle.ts_row.specs.Element.{Element}
-use Rattle.ts_row.specs.Row.{Row}
-use Rattle.ts_expr.specs.Binding.{Binding}
-use Rattle.ts_expr.specs.Fold.{folded_row}
-use Rattle.ts_sheets.specs.Range.{within_range}
+use Rattle.ts_row.specs.Row.{Element, Row}
+use Rattle.ts_expr.specs.Aggregates.{Binding, folded_row}
+use Rattle.ts_sheets.specs.Stamped.{within_range}
 use Rattle.ts_clip.specs.Series.{HaveOnPlaces, ArePagesOf}
 use Rattle.ts_offset.specs.Shape.{IsLaidOut}
 use Rattle.ts_space.specs.Place.{count_of}

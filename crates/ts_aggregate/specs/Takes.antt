@@ -3,9 +3,8 @@ use Rattle.std.specs.Prelude.{List, [], ◌++◌, map, refl}
 use Rattle.std.proofs.Common.{append_assoc, sym, ap, subst, ◌∙◌}
 use Rattle.std.proofs.lemmas.List.{append-nil, map-append}
 use Rattle.ts_row.specs.declared.kind.Column.{Column}
-use Rattle.ts_row.specs.Row.{Row}
-use Rattle.ts_row.specs.Element.{Element}
-use Rattle.ts_expr.specs.Binding.{Binding}
+use Rattle.ts_row.specs.Row.{Row, Element}
+use Rattle.ts_expr.specs.Aggregates.{Binding}
 use Rattle.ts_expr.specs.Running.{after}
 use Rattle.ts_expr.proofs.CallerLemmas.{few_first, few_behind}
 use Rattle.ts_aggregate.specs.Fold.{Fold, most_folded, Takes}

@@ -6,7 +6,7 @@ use Rattle.std.specs.List.{list_all}
 use Rattle.std.specs.Int.{w16, w32, w64, w128, from_be_bytes, cast_signed}
 use Rattle.ts_row.specs.declared.kind.ColumnKind.{ColumnKind}
 use Rattle.ts_row.specs.declared.kind.ColumnKind.TheVariants.{SmallInt, Integer, BigInt, Decimal, VarChar}
-use Rattle.ts_row.specs.RowType.{short_digits}
+use Rattle.ts_row.specs.Row.{short_digits}
 use Rattle.ts_row.specs.declared.value.Value.TheVariants.{Null, Number}
 use Rattle.ts_expr.specs.declared.tally.Tally.{Tally}
 use Rattle.ts_expr.specs.declared.tally.Tally.TheVariants as tally

@@ -1,10 +1,8 @@
 // One that groups the elements that it is handed.
 ghost use Rattle.std.specs.Prelude.{◌≡◌, ℕ, ◌+◌, ◌-◌, ◌*◌, ◌^◌, ◌<◌, ◌≤◌, min, [], ◌∷◌, Option, None, Some, OnOk, IfOk, List};
 ghost use Rattle.std.specs.Prelude.{ℤ, length, map, take};
-ghost use Rattle.ts_row.specs.Row.{Row as TheRow};
-ghost use Rattle.ts_row.specs.Element.{Element};
-ghost use Rattle.ts_row.specs.RowType.{width_of};
-ghost use Rattle.ts_calendar.specs.Intervals.{IsBefore};
+ghost use Rattle.ts_row.specs.Row.{Row as TheRow, Element, width_of};
+ghost use Rattle.ts_calendar.specs.Calendars.{IsBefore};
 ghost use Rattle.ts_entry.specs.Stamps.{HasStamp, IsNear};
 ghost use Rattle.ts_entry.specs.Rows.{IsCellWith, AreCellsWith, AreStamped, elements_in, row_if_any, rows_in};
 ghost use Rattle.ts_base.specs.Answer.{most_rows};

@@ -3,9 +3,8 @@ ghost use Rattle.std.specs.Prelude.{◌≡◌, ◌+◌, ◌*◌, ◌^◌, ◌≤
 ghost use Rattle.std.specs.Prelude.{unsigned_abs, fold, map, length};
 ghost use Rattle.std.specs.List.{list_all};
 ghost use Rattle.ts_row.specs.declared.value.Value.TheVariants.{Null, Number, Text};
-ghost use Rattle.ts_row.specs.RowType.{column_width};
-ghost use Rattle.ts_expr.specs.Binding.{is_text_kind};
-ghost use Rattle.ts_expr.specs.Fold.{earlier, later};
+ghost use Rattle.ts_row.specs.Row.{column_width};
+ghost use Rattle.ts_expr.specs.Aggregates.{is_text_kind, earlier, later};
 ghost use Rattle.ts_expr.specs.Running.{count_of, with_value, with_sums};
 ghost use Rattle.ts_aggregate.specs.Column;
 ghost use Rattle.ts_aggregate.specs.Column.{found, AreWhole, read_values, read_numbers, read_texts, is_small};

@@ -2,10 +2,9 @@
 ghost use Rattle.std.specs.Prelude.{◌≡◌, ℕ, ◌+◌, ◌*◌, ◌≤◌, ◌<◌, [], ◌++◌, IfOk, OnOk, IsTrue, All, List, Option};
 ghost use Rattle.std.specs.Prelude.{if◌then◌else◌, length, map, take};
 ghost use Rattle.std.specs.List.{list_all};
-ghost use Rattle.ts_row.specs.Row.{Row as TheRow};
-ghost use Rattle.ts_row.specs.RowType.{is_kind, width_of};
+ghost use Rattle.ts_row.specs.Row.{Row as TheRow, is_kind, width_of};
 ghost use Rattle.ts_entry.specs.Rows.{AreCellsWith, rows_in};
-ghost use Rattle.ts_expr.specs.Fold.{folded_row};
+ghost use Rattle.ts_expr.specs.Aggregates.{folded_row};
 ghost use Rattle.ts_expr.specs.Running.{after, value_of};
 ghost use Rattle.ts_aggregate.specs.Fold.{HasTaken, AreTallies, Takes, most_folded};
 ghost use Rattle.ts_aggregate.specs.Column.{AreRowCells};

@@ -1,14 +1,14 @@
 // The elements that each on interval of a calendar holds as a row.
 ghost use Rattle.std.specs.Prelude.{◌≡◌, ◌<◌, ◌^◌, [], IfOk};
-ghost use Rattle.ts_row.specs.Element.{seen};
+ghost use Rattle.ts_row.specs.Row.{seen};
 ghost use Rattle.ts_space.specs.Place.{count_of};
 ghost use Rattle.ts_space.specs.Directory.{places_of};
 ghost use Rattle.ts_irregular.specs.Call.{Reads};
 ghost use Rattle.ts_base.specs.Answer.{within_rows};
-ghost use Rattle.ts_entry.specs.Intervals.{by_interval};
+ghost use Rattle.ts_entry.specs.Entry.{by_interval};
 ghost use Rattle.ts_clip.specs.Series.{ArePlaces, IsTold};
 ghost use Rattle.ts_offset.specs.Shape.{IsLaidOut};
-ghost use Rattle.ts_expr.specs.Fold.{folded_row};
+ghost use Rattle.ts_expr.specs.Aggregates.{folded_row};
 ghost use Rattle.ts_aggregate.specs.Fold.{HasTaken};
 ghost use Rattle.ts_entry.specs.Handed.{AreHanded};
 

@@ -3,7 +3,7 @@
 //! (`Folding`), so that none is made and the memory doesn't grow with the range; intervals are sought where the next
 //! element is, and not walked, and the cells of a page that belong to one of them are folded as one piece.
 //! `aggregate_all` folds many series whose pages were read (`Stack`), by as many workers as serve. What is made is
-//! `folded_row` of ts_expr; how elements are grouped is `specs/Intervals` of ts_entry. Stands on ts_expr for lists, on
+//! `folded_row` of ts_expr; how elements are grouped is `specs/Entry` of ts_entry. Stands on ts_expr for lists, on
 //! ts_clip for pages, on ts_parallel for workers and on ts_offset for calendars; knows nothing of definitions and
 //! replies. Read `specs/Fold.antt`, `specs/Groups.antt`, `folding.rt`, `range.rt`, `groups.rt`, then
 //! `specs/Stacks.antt` and `all_series.rt`.

@@ -2,9 +2,9 @@
 ghost use Rattle.std.specs.Prelude.{◌≡◌, ◌+◌, ◌*◌, ◌^◌, ◌≤◌, ◌<◌, ◌+ℤ◌, unsigned_abs, if◌then◌else◌, true, false};
 ghost use Rattle.std.specs.Prelude.{IsTrue, IsSome, Some, None, length};
 ghost use Rattle.std.specs.Int.{cast_signed, from_be_bytes, w64, int_min, int_max};
-ghost use Rattle.ts_row.specs.RowType.{column_width};
+ghost use Rattle.ts_row.specs.Row.{column_width};
 ghost use Rattle.ts_row.specs.Decoding.{number_in};
-ghost use Rattle.ts_expr.specs.Binding.{is_text_kind};
+ghost use Rattle.ts_expr.specs.Aggregates.{is_text_kind};
 ghost use Rattle.ts_aggregate.specs.Column.{found, AreWhole, read_numbers, long_number};
 ghost use Rattle.ts_aggregate.specs.Totals.{bytes_in, sized_numbers, AreKnown};
 ghost use Rattle.ts_aggregate.specs.Totals as ThatTotals;

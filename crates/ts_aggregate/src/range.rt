@@ -3,7 +3,7 @@ ghost use Rattle.std.specs.Prelude.{◌<◌, ◌^◌, IfOk, map};
 ghost use Rattle.ts_space.specs.Place.{count_of};
 ghost use Rattle.ts_space.specs.Directory.{places_of};
 ghost use Rattle.ts_irregular.specs.Call.{Reads};
-ghost use Rattle.ts_sheets.specs.Range.{within_range};
+ghost use Rattle.ts_sheets.specs.Stamped.{within_range};
 ghost use Rattle.ts_clip.specs.Series.{ArePlaces, IsTold};
 ghost use Rattle.ts_offset.specs.Shape.{IsLaidOut};
 ghost use Rattle.ts_aggregate.specs.Fold.{Folds};

@@ -2,10 +2,9 @@
 ghost use Rattle.std.specs.Prelude.{◌≡◌, ℤ, ◌+◌, ◌*◌, ◌^◌, ◌<◌, ◌≤◌, ◌<ℤ◌, ℕ, Some, Option, IsTrue, List, length, map};
 ghost use Rattle.std.specs.Prelude.{◌-◌, IfSome, take, drop};
 ghost use Rattle.ts_row.specs.declared.kind.Column.{Column};
-ghost use Rattle.ts_row.specs.RowType.{width_of};
-ghost use Rattle.ts_row.specs.Element.{Element};
+ghost use Rattle.ts_row.specs.Row.{width_of, Element};
 ghost use Rattle.ts_entry.specs.declared.stamps.Stamps.TheVariants.{InCells, OnGrid};
-ghost use Rattle.ts_calendar.specs.Intervals.{IsLaid};
+ghost use Rattle.ts_calendar.specs.Calendars.{IsLaid};
 ghost use Rattle.ts_offset.specs.Grid.{stamp_of};
 ghost use Rattle.ts_entry.specs.Stamps.{IsNear};
 ghost use Rattle.ts_entry.specs.Rows.{AreCellsWith, AreStamped, elements_in, row_if_any};

@@ -1,6 +1,6 @@
 // Neighbouring stamps at which elements belong to one group.
 ghost use Rattle.std.specs.Prelude.{◌↔◌, IsTrue};
-ghost use Rattle.ts_calendar.specs.Intervals.{IsBefore};
+ghost use Rattle.ts_calendar.specs.Calendars.{IsBefore};
 
 use ts_base::Stamp;
 

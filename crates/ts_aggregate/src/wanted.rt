@@ -1,8 +1,8 @@
 // Which groups are asked for.
 ghost use Rattle.std.specs.Prelude.{◌≡◌, ℤ, ◌<◌, ◌<ℤ◌, [], Some, None, true, false, IfSome, IfNone, pos};
 ghost use Rattle.ts_base.specs.Moment.{IsStamp};
-ghost use Rattle.ts_pattern.specs.Runs.{flag, total};
-ghost use Rattle.ts_calendar.specs.Intervals.{IsBefore, start_at, is_on};
+ghost use Rattle.ts_pattern.specs.Patterns.{flag, total};
+ghost use Rattle.ts_calendar.specs.Calendars.{IsBefore, start_at, is_on};
 ghost use Rattle.ts_offset.specs.Grid.{held_start};
 ghost use Rattle.ts_aggregate.specs.Groups.{asked_start, IsGoingOn, IsSpan};
 

@@ -10,9 +10,8 @@ use Rattle.ts_replies.specs.Acknowledged.{AreApart}
 use Rattle.ts_model.specs.declared.kind.Kind.{Kind}
 use Rattle.ts_model.specs.declared.kind.Kind.TheVariants as kinds
 use Rattle.ts_model.specs.Catalogue.{Catalogue}
-use Rattle.ts_command.specs.Script.{Request}
-use Rattle.ts_answer.specs.Answer.{Tried, Answered, ◌>>=◌, settled, outcome, carried_out, create_row_type, drop_definition, create_pattern, turn_pattern, join_patterns, show_pattern, create_calendar, join_calendars, show_calendar, count_starts, find_start, list_starts, create_container, container_usage, create_irregular, create_regular, drop_series, list_series, put_element, put_no_dups, insert_element, update_element, delete_element, delete_range, mark_element, get_element, get_last_element, count_elements, get_first_element, get_nth_element, clip_series, count_clip, clip_counted, join_series, lag_series, aggregate_by, aggregate_range, aggregate_all, running_values, apply_exprs, roll_create, roll_put, roll_clip, roll_drop}
-use Rattle.ts_answer.specs.State.{State, run_outcome, run_answer}
+use Rattle.ts_command.specs.Grammar.{Request}
+use Rattle.ts_answer.specs.Answer.{Tried, Answered, ◌>>=◌, settled, outcome, carried_out, create_row_type, drop_definition, create_pattern, turn_pattern, join_patterns, show_pattern, create_calendar, join_calendars, show_calendar, count_starts, find_start, list_starts, create_container, container_usage, create_irregular, create_regular, drop_series, list_series, put_element, put_no_dups, insert_element, update_element, delete_element, delete_range, mark_element, get_element, get_last_element, count_elements, get_first_element, get_nth_element, clip_series, count_clip, clip_counted, join_series, lag_series, aggregate_by, aggregate_range, aggregate_all, running_values, apply_exprs, roll_create, roll_put, roll_clip, roll_drop, State, run_outcome, run_answer}
 use Rattle.ts_answer.proofs.StateLemmas.{IsSaidSo, run_said}
 use Rattle.ts_answer.proofs.ReplyLemmas.{IsApart, Begins, apart-begins, ok-begins, count-begins, counts-begins, number-begins, stamp-begins, pattern-begins, calendar-begins, stamps-begin, elements-begin, entries-begin, series_text-begins, folded-begin, series_folded-begin, refusal-apart}
 

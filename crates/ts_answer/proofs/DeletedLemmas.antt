@@ -6,8 +6,8 @@ use Rattle.std.specs.Cmp.{int_cmp_total}
 use Rattle.std.specs.declared.cmp.Ordering.{Ordering}
 use Rattle.std.specs.declared.cmp.Ordering.TheVariants.{Less, Equal, Greater}
 use Rattle.std.specs.Ordering.{is_eq, eq_by_cmp, int_cmp}
-use Rattle.ts_row.specs.Element.{Element}
-use Rattle.ts_sheets.specs.Range.{is_within, within_range, without_range}
+use Rattle.ts_row.specs.Row.{Element}
+use Rattle.ts_sheets.specs.Stamped.{is_within, within_range, without_range}
 use Rattle.ts_model.specs.Catalogue.{name_cmp, Named, Elements, Series, Catalogue}
 use Rattle.ts_model.proofs.OrderLemmas.{total, same_name, ties-same}
 use Rattle.ts_answer.specs.Elements.{with_elements, without_one}

@@ -3,7 +3,7 @@ use Rattle.std.proofs.Common.{◌≡◌, ℤ, Option, Some, None, Ok, ap, sym, �
 use Rattle.std.specs.Option.{option_map}
 use Rattle.std.specs.Prelude.{ok_or}
 use Rattle.ts_base.specs.declared.refusal.Refusal.TheVariants as refusals
-use Rattle.ts_calendar.specs.Plan.{CalendarPlan}
+use Rattle.ts_calendar.specs.Calendars.{CalendarPlan}
 use Rattle.ts_offset.specs.Grid.{GridPlan, grid_of, held_start, start_or_next}
 
 -- the grid that is made has the calendar, and the start that was sought for its origin

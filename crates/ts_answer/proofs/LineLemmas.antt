@@ -4,14 +4,11 @@ use Rattle.std.specs.List.{flat_map, starts_with}
 use Rattle.std.specs.Fmt.{digits, digits_onto, digit_glyph, decimal}
 use Rattle.std.proofs.lemmas.Bool.{ne_eqb}
 use Rattle.std.proofs.lemmas.List.{append-nil}
-use Rattle.ts_base.specs.Moment.{Civil}
-use Rattle.ts_base.specs.StampText.{stamp_text, text_of}
+use Rattle.ts_base.specs.Moment.{Civil, stamp_text, text_of}
 use Rattle.ts_base.specs.declared.refusal.Refusal.{Refusal}
 use Rattle.ts_base.specs.declared.refusal.Refusal.TheVariants as refusals
 use Rattle.ts_row.specs.declared.kind.Column.{Column}
-use Rattle.ts_row.specs.Element.{Element}
-use Rattle.ts_row.specs.Row.{Row}
-use Rattle.ts_row.specs.Printed.{number_text, quoted}
+use Rattle.ts_row.specs.Row.{Element, Row, number_text, quoted}
 use Rattle.ts_answer.specs.Reply.{ok_line, count_line, counts_line, number_line, stamp_line, refusal_line, stamp_row, stamps_text, element_line, elements_text, entry_line, entries_text, shape_word, series_line, series_text, scaled_text, folded_line, folded_text, series_folded_line, series_folded_text}
 use Rattle.ts_answer.specs.Outcomes.{last_line_from, last_line, ends_with_ok}
 

@@ -7,12 +7,11 @@ use Rattle.ts_base.specs.declared.fault.Trouble.TheVariants.{Refused}
 use Rattle.ts_calendar.specs.declared.text.CalendarText.{CalendarText}
 use Rattle.ts_model.specs.declared.kind.Kind.{Kind}
 use Rattle.ts_model.specs.declared.kind.Kind.TheVariants as kinds
-use Rattle.ts_model.specs.Catalogue.{calendar_of}
+use Rattle.ts_model.specs.Catalogue.{calendar_of, In, named}
 use Rattle.ts_model.specs.Definitions.{Definitions, limit, slots, slot_of, vacant_slot}
 use Rattle.ts_layout.specs.Meaning.{Layout, IsSound, value_of, catalogue_of}
 use Rattle.ts_layout.proofs.CallerLemmas.{name_found, no_name_found, kind_full, kind_vacant, calendar_stands}
 use Rattle.ts_answer.specs.Answer.{known, wanted, a_new_name, a_calendar}
-use Rattle.ts_model.specs.Kinds.{In, named}
 use Rattle.ts_answer.specs.Slots.{IsFreeSlot, IsSlotNamed, IsValue, Stands, IsCalendarIn}
 use Rattle.ts_answer.specs.Tried.{IsTried}
 use Rattle.ts_answer.specs.View.{IsHeldOf, IsDefinedBy}

@@ -8,10 +8,9 @@ use Rattle.ts_command.specs.declared.command.Command.TheVariants as commands
 use Rattle.ts_model.specs.declared.kind.Kind.{Kind}
 use Rattle.ts_model.specs.declared.kind.Kind.TheVariants as kinds
 use Rattle.ts_model.specs.Catalogue.{Catalogue}
-use Rattle.ts_answer.specs.Answer.{Tried, Answered, ◌>>=◌, settled, outcome, carried_out, create_row_type, drop_definition, create_pattern, turn_pattern, join_patterns, show_pattern, create_calendar, join_calendars, show_calendar, count_starts, find_start, list_starts, create_container, container_usage, create_irregular, create_regular, drop_series, list_series, put_element, put_no_dups, insert_element, update_element, delete_element, delete_range, mark_element, get_element, get_last_element, count_elements, get_first_element, get_nth_element, clip_series, count_clip, clip_counted, join_series, lag_series, aggregate_by, aggregate_range, aggregate_all, running_values, apply_exprs, roll_create, roll_put, roll_clip, roll_drop}
+use Rattle.ts_answer.specs.Answer.{Tried, Answered, ◌>>=◌, settled, outcome, carried_out, create_row_type, drop_definition, create_pattern, turn_pattern, join_patterns, show_pattern, create_calendar, join_calendars, show_calendar, count_starts, find_start, list_starts, create_container, container_usage, create_irregular, create_regular, drop_series, list_series, put_element, put_no_dups, insert_element, update_element, delete_element, delete_range, mark_element, get_element, get_last_element, count_elements, get_first_element, get_nth_element, clip_series, count_clip, clip_counted, join_series, lag_series, aggregate_by, aggregate_range, aggregate_all, running_values, apply_exprs, roll_create, roll_put, roll_clip, roll_drop, State, run_outcome, run_answer, replies}
 use Rattle.ts_answer.specs.Reply.{pattern_lines, calendar_lines}
 use Rattle.ts_answer.proofs.LineLemmas.{EndsOk, ok-ends, count-ends, counts-ends, number-ends, stamp-ends, above-ends, stamps-end, elements-end, entries-end, series_text-ends, folded-end, series_folded-end, refusal-not}
-use Rattle.ts_answer.specs.State.{State, run_outcome, run_answer, replies}
 use Rattle.ts_answer.specs.Outcomes.{ends_with_ok, is_answered, are_answered, OkLinesAreAnswers, CountsAreOfOutcomes}
 use Rattle.ts_answer.proofs.StateLemmas.{IsSaidSo, run_said}
 

@@ -3,15 +3,13 @@ use Rattle.std.proofs.Common.{◌≡◌, ℕ, ◌+◌, ◌%◌, ℤ, Bool, cond,
 use Rattle.std.specs.List.{flat_map}
 use Rattle.std.specs.Fmt.{digits}
 use Rattle.std.proofs.lemmas.Bool.{ne_eqb}
-use Rattle.ts_pattern.specs.Plan.{Plan}
+use Rattle.ts_pattern.specs.Patterns.{Plan}
 use Rattle.ts_calendar.specs.declared.text.CalendarText.{CalendarText}
-use Rattle.ts_base.specs.StampText.{stamp_text}
+use Rattle.ts_base.specs.Moment.{stamp_text}
 use Rattle.ts_base.specs.declared.refusal.Refusal.{Refusal}
 use Rattle.ts_base.specs.declared.refusal.Refusal.TheVariants as refusals
 use Rattle.ts_row.specs.declared.kind.Column.{Column}
-use Rattle.ts_row.specs.Element.{Element}
-use Rattle.ts_row.specs.Row.{Row}
-use Rattle.ts_row.specs.Printed.{row_text}
+use Rattle.ts_row.specs.Row.{Element, Row, row_text}
 use Rattle.ts_entry.specs.Entry.{Entry}
 use Rattle.ts_replies.specs.Acknowledged.{behind, memory_line}
 use Rattle.ts_answer.specs.Reply.{ok_line, count_line, counts_line, number_line, stamp_line, refusal_line, pattern_lines, calendar_lines, stamp_row, stamps_text, element_line, elements_text, row_or_none, entry_line, entries_text, series_line, series_text, scaled_text, folded_line, folded_text, series_folded_line, series_folded_text}

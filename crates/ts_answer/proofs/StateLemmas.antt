@@ -7,13 +7,11 @@ use Rattle.ts_command.specs.declared.command.Command.{Command}
 use Rattle.ts_command.specs.declared.command.Command.TheVariants as commands
 use Rattle.ts_command.specs.declared.boundary.Boundary.{Boundary}
 use Rattle.ts_command.specs.declared.boundary.Boundary.TheVariants.{Opens, Commits, RollsBack, Alone}
-use Rattle.ts_command.specs.Boundary.{boundary_of}
-use Rattle.ts_command.specs.Writing.{is_writing}
-use Rattle.ts_command.specs.Script.{Request}
+use Rattle.ts_command.specs.Boundary.{boundary_of, is_writing}
+use Rattle.ts_command.specs.Grammar.{Request}
 use Rattle.ts_model.specs.Catalogue.{Catalogue}
 use Rattle.ts_answer.specs.Reply.{ok_line, number_line, refusal_line}
-use Rattle.ts_answer.specs.Answer.{Tried, Answered, ◌>>=◌, refused_if, carried_out, outcome, settled, answer}
-use Rattle.ts_answer.specs.State.{State, resting, opened, begun, counted, within_transaction, outside, inside, carried_out_in, run_outcome, run_answer, after, replies}
+use Rattle.ts_answer.specs.Answer.{Tried, Answered, ◌>>=◌, refused_if, carried_out, outcome, settled, answer, State, resting, opened, begun, counted, within_transaction, outside, inside, carried_out_in, run_outcome, run_answer, after, replies}
 
 -- one command more
 pub after_more : (state : State) (xs : List Command) (c : Command) → after state (xs ++ c ∷ []) ≡ (run_answer (after state xs) (Ok c)).1

@@ -10,8 +10,7 @@ use Rattle.ts_base.specs.declared.fault.Trouble.{Trouble}
 use Rattle.ts_base.specs.declared.fault.Trouble.TheVariants.{Refused, Memory}
 use Rattle.ts_row.specs.declared.kind.Column.{Column}
 use Rattle.ts_row.specs.declared.value.Literal.{Literal}
-use Rattle.ts_row.specs.RowType.{bad_column}
-use Rattle.ts_row.specs.Row.{Row, row_of}
+use Rattle.ts_row.specs.Row.{bad_column, Row, row_of}
 use Rattle.ts_base.specs.Answer.{Answers, AnswersList}
 use Rattle.ts_model.specs.Catalogue.{Named, Elements, old_format}
 use Rattle.ts_answer.specs.Answer.{Tried, ◌>>=◌, refused_if, known, wanted, unused, within_limit, no_bad_column, beyond_old_format, present, row_at, row_or_mismatch, a_row, within_quota, in_time}

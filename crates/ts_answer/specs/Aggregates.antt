@@ -3,16 +3,13 @@ use Rattle.std.specs.Prelude.{ℕ, ℤ, List, [], ◌∷◌, map, unwrap_or, opt
 use Rattle.std.specs.FinMap.{entries, get}
 use Rattle.ts_row.specs.declared.kind.Column.{Column}
 use Rattle.ts_row.specs.Row.{Row}
-use Rattle.ts_sheets.specs.Range.{within_range}
+use Rattle.ts_sheets.specs.Stamped.{within_range}
 use Rattle.ts_base.specs.Answer.{within_rows}
-use Rattle.ts_entry.specs.Intervals.{by_interval}
-use Rattle.ts_expr.specs.Grammar.{read_list}
-use Rattle.ts_expr.specs.Binding.{Binding, binding}
-use Rattle.ts_expr.specs.Fold.{folded_row}
+use Rattle.ts_entry.specs.Entry.{by_interval}
+use Rattle.ts_expr.specs.Aggregates.{read_list, Binding, binding, folded_row}
 use Rattle.ts_model.specs.Catalogue.{Elements, Container, Catalogue, columns_of, series_in}
-use Rattle.ts_answer.specs.Reply.{folded_text, series_folded_text}
-use Rattle.ts_answer.specs.Refusals.{Tried, Answered, wanted, a_calendar}
-unfoldable use Rattle.ts_answer.specs.Refusals.{◌>>=◌}
+use Rattle.ts_answer.specs.Reply.{folded_text, series_folded_text, Tried, Answered, wanted, a_calendar}
+unfoldable use Rattle.ts_answer.specs.Reply.{◌>>=◌}
 use Rattle.ts_answer.specs.Elements.{seen_elements}
 
 -- the digits after the point of what each item makes

@@ -1,48 +1,50 @@
--- What a catalogue answers to a request of a script: a reply, and the catalogue after it. Each routine tries its
--- refusals in order; the first that holds is said, and the catalogue stays.
-use Rattle.std.specs.Prelude.{ℕ, ◌+◌, Bool, true, false, ℤ, pos, unsigned_abs, List, map, Ok, Err}
+-- What each command answers, and a run of commands with its transactions.
+use Rattle.std.specs.Prelude.{ℕ, ◌+◌, Bool, ◌&&◌, nat_le, true, false, ℤ, pos, unsigned_abs, List, [], ◌∷◌}
+use Rattle.std.specs.Prelude.{if◌then◌else◌, Option, Some, None, map, Ok, Err}
 use Rattle.std.specs.FinMap.{len}
 use Rattle.ts_base.specs.declared.refusal.Refusal.TheVariants as refusals
 use Rattle.ts_row.specs.declared.kind.Column.{Column}
-use Rattle.ts_row.specs.RowType.{bad_column, has_long_decimal}
+use Rattle.ts_row.specs.Row.{bad_column, has_long_decimal}
 use Rattle.ts_pattern.specs.declared.junction.Junction.{Junction}
 use Rattle.ts_pattern.specs.declared.junction.Junction.TheVariants.{And, Or}
-use Rattle.ts_pattern.specs.Runs.{turned}
-use Rattle.ts_pattern.specs.Grammar.{read_plan}
-use Rattle.ts_pattern.specs.Algebra.{joined_plan}
-use Rattle.ts_calendar.specs.Calendar.{valid_calendar, joined_calendar}
+use Rattle.ts_pattern.specs.Patterns.{turned, read_plan, joined_plan}
+use Rattle.ts_calendar.specs.Calendars.{valid_calendar, joined_calendar, read_calendar, calendar_text}
 use Rattle.ts_calendar.specs.declared.text.PatternPart.TheVariants.{Own}
-use Rattle.ts_calendar.specs.Text.{read_calendar, calendar_text}
-use Rattle.ts_offset.specs.Counting.{cal_index, cal_stamp, cal_range}
+use Rattle.ts_offset.specs.Grid.{cal_index, cal_stamp, cal_range}
 use Rattle.ts_expr.specs.declared.function.Function.TheVariants as functions
-use Rattle.ts_command.specs.declared.command.Command.{Command}
-use Rattle.ts_command.specs.declared.command.Command.TheVariants as commands
-use Rattle.ts_command.specs.Script.{Request}
 use Rattle.ts_model.specs.declared.kind.Kind.{Kind}
 use Rattle.ts_model.specs.declared.kind.Kind.TheVariants as kinds
-use Rattle.ts_model.specs.Catalogue.{is_regular, Catalogue, with_plan, series_in, quotas}
+use Rattle.ts_model.specs.Catalogue.{is_regular, Catalogue, with_plan, series_in, quotas, named, with_named, without}
+use Rattle.ts_model.specs.Catalogue.{is_used}
 use Rattle.ts_model.specs.Charge.{container_charge}
-use Rattle.ts_model.specs.Kinds.{named, with_named, without, is_used}
+use Rattle.ts_command.specs.declared.command.Command.{Command}
+use Rattle.ts_command.specs.declared.boundary.Boundary.{Boundary}
+use Rattle.ts_command.specs.declared.boundary.Boundary.TheVariants.{Opens, Commits, RollsBack, Alone}
+use Rattle.ts_command.specs.Boundary.{boundary_of, is_writing}
+use Rattle.ts_command.specs.declared.command.Command.TheVariants as commands
+use Rattle.ts_command.specs.Grammar.{Request}
+use Rattle.ts_replies.specs.Acknowledged.{memory_line}
 use Rattle.ts_answer.specs.Reply.{ok_line, counts_line, number_line, stamp_line, refusal_line, pattern_lines}
 use Rattle.ts_answer.specs.Reply.{calendar_lines, series_text, stamps_text}
-pub use Rattle.ts_answer.specs.Refusals.{Tried, Answered, known, no_bad_column, row_or_mismatch, present, on_grid}
-pub use Rattle.ts_answer.specs.Refusals.{addressed, reached, given, in_time, placed}
-unfoldable pub use Rattle.ts_answer.specs.Refusals.{◌>>=◌, refused_if, wanted, unused, within_limit, a_new_name}
-unfoldable pub use Rattle.ts_answer.specs.Refusals.{beyond_old_format, a_row, row_at, a_place, an_address, within_quota}
-unfoldable pub use Rattle.ts_answer.specs.Refusals.{within_pages, a_calendar}
+pub use Rattle.ts_answer.specs.Reply.{Tried, Answered, known, no_bad_column, row_or_mismatch, present, on_grid}
+pub use Rattle.ts_answer.specs.Reply.{addressed, reached, given, in_time, placed}
+unfoldable pub use Rattle.ts_answer.specs.Reply.{◌>>=◌, refused_if, wanted, unused, within_limit, a_new_name}
+unfoldable pub use Rattle.ts_answer.specs.Reply.{beyond_old_format, a_row, row_at, a_place, an_address, within_quota}
+unfoldable pub use Rattle.ts_answer.specs.Reply.{within_pages, a_calendar}
 pub use Rattle.ts_answer.specs.Elements.{with_elements, with_element, seen_elements, last_element, element_at}
 pub use Rattle.ts_answer.specs.Elements.{count_if_any, count_at, without_one}
 unfoldable pub use Rattle.ts_answer.specs.Elements.{put_element, put_no_dups, insert_element, update_element}
 unfoldable pub use Rattle.ts_answer.specs.Elements.{delete_element, delete_range, mark_element, get_element}
 unfoldable pub use Rattle.ts_answer.specs.Elements.{get_last_element, count_elements, get_first_element}
 unfoldable pub use Rattle.ts_answer.specs.Elements.{get_nth_element, clip_series, count_clip, clip_counted, join_series}
-unfoldable pub use Rattle.ts_answer.specs.Elements.{lag_series}
-unfoldable pub use Rattle.ts_answer.specs.Elements.{a_reading}
+unfoldable pub use Rattle.ts_answer.specs.Elements.{lag_series, a_reading, running_values, apply_exprs}
+unfoldable pub use Rattle.ts_answer.specs.Elements.{create_irregular, create_regular, roll_create, roll_put, roll_clip}
+unfoldable pub use Rattle.ts_answer.specs.Elements.{roll_drop}
 pub use Rattle.ts_answer.specs.Aggregates.{scales_of, folded_range, columns_in}
 unfoldable pub use Rattle.ts_answer.specs.Aggregates.{aggregate_by, aggregate_range, aggregate_all}
-unfoldable pub use Rattle.ts_answer.specs.RunningValues.{running_values, apply_exprs}
-unfoldable pub use Rattle.ts_answer.specs.Series.{create_irregular, create_regular}
-unfoldable pub use Rattle.ts_answer.specs.Rolling.{roll_create, roll_put, roll_clip, roll_drop}
+
+-- What a catalogue answers to a request of a script: a reply, and the catalogue after it. Each routine tries its
+-- refusals in order; the first that holds is said, and the catalogue stays.
 
 unfoldable pub create_row_type : List ℕ → List ℕ → List Column → Catalogue → Tried Answered
 create_row_type name stamp columns cat = do
@@ -233,3 +235,107 @@ may_lack_memory (Ok command) = true
 may_lack_memory (Err refusals.TooLong) = false
 may_lack_memory (Err refusals.Unended) = false
 may_lack_memory (Err refusal) = true
+
+-- The state that a run of a script goes through: what answers its requests, and what it leaves on the volume. All that
+-- speaks of runs, moments and steps cites these.
+
+-- an open transaction: the catalogue after its commands, and how many of them that write were accepted
+pub record Transaction : Type 0 where
+  pub work : Catalogue
+  pub accepted : ℕ
+
+-- What a run is at between two requests: the catalogue that its volume means, and the transaction that is open, if one
+-- is.
+pub record State : Type 0 where
+  pub base : Catalogue
+  pub transaction : Option Transaction
+
+-- no transaction is open; so a run begins on a volume that means a catalogue
+abbrev pub resting : Catalogue → State
+resting cat = record { base = cat; transaction = None }
+
+-- one is open, with this work and so many accepted commands that write
+abbrev pub opened : Catalogue → Catalogue → ℕ → State
+opened base work accepted = record { base = base; transaction = Some (record { work = work; accepted = accepted }) }
+
+-- the catalogue that the volume means there
+abbrev pub committed : State → Catalogue
+committed state = state.base
+
+-- the catalogue that commands are answered by
+abbrev pub newest_of : Catalogue → Option Transaction → Catalogue
+newest_of base None = base
+newest_of base (Some transaction) = transaction.work
+
+abbrev pub newest : State → Catalogue
+newest state = newest_of state.base state.transaction
+
+-- how many accepted commands that write a transaction may have
+abbrev pub most_accepted : ℕ
+most_accepted = 32
+
+-- the count with an accepted command
+abbrev pub counted : Command → ℕ → ℕ
+counted command accepted = accepted + (if is_writing command then 1 else 0)
+
+-- a transaction that has all that it may have takes no more commands that write
+unfoldable pub within_transaction : Command → ℕ → Tried (Unit {0})
+within_transaction command accepted =
+    refused_if (is_writing command && nat_le most_accepted accepted) refusals.TransactionFull
+
+-- the transaction that a command opens at a catalogue
+abbrev pub begun : Option Boundary → Catalogue → Option Transaction
+begun (Some Opens) cat = Some (record { work = cat; accepted = 0 })
+begun (Some Commits) cat = None
+begun (Some RollsBack) cat = None
+begun (Some Alone) cat = None
+begun None cat = None
+
+-- what a command comes to where no transaction is open: its answer is that of the catalogue, and so is the catalogue
+-- after it
+unfoldable pub outside : Command → Catalogue → Tried (List ℕ × State)
+outside command base = do
+  answered ← outcome (Ok command) base
+  Ok (answered.0, record { base = answered.1; transaction = begun (boundary_of command) answered.1 })
+
+-- What it comes to where one is open. Only its end moves the base, and what stands in no transaction is refused before
+-- all else.
+unfoldable pub inside : Option Boundary → Command → Catalogue → Catalogue → ℕ → Tried (List ℕ × State)
+inside (Some Opens) command base work accepted = Err refusals.AlreadyOpen
+inside (Some Commits) command base work accepted = Ok (number_line (pos accepted), resting work)
+inside (Some RollsBack) command base work accepted = Ok (ok_line, resting base)
+inside (Some Alone) command base work accepted = Err refusals.AlreadyOpen
+inside None command base work accepted = do
+  room ← within_transaction command accepted
+  answered ← outcome (Ok command) work
+  Ok (answered.0, opened base answered.1 (counted command accepted))
+
+-- what a command comes to at a base, and with the transaction that is open
+abbrev pub carried_out_in : Command → Catalogue → Option Transaction → Tried (List ℕ × State)
+carried_out_in command base None = outside command base
+carried_out_in command base (Some transaction) =
+    inside (boundary_of command) command base transaction.work transaction.accepted
+
+-- what a request comes to
+unfoldable pub run_outcome : Request → State → Tried (List ℕ × State)
+run_outcome (Ok command) state = carried_out_in command state.base state.transaction
+run_outcome (Err refusal) state = Err refusal
+
+-- the reply to a request, and the state after it
+unfoldable pub run_answer : State → Request → List ℕ × State
+run_answer state request = settled state (run_outcome request state)
+
+-- the line that may stand in the place of the reply for want of memory
+abbrev pub stand_in : Request → Option (List ℕ)
+stand_in request = if may_lack_memory request then Some memory_line else None
+
+-- the state after commands, one behind the other
+abbrev pub after : State → List Command → State
+after state [] = state
+after state (command ∷ commands) = after (run_answer state (Ok command)).1 commands
+
+-- the replies to them
+abbrev pub replies : State → List Command → List (List ℕ)
+replies state [] = []
+replies state (command ∷ commands) =
+    (run_answer state (Ok command)).0 ∷ replies (run_answer state (Ok command)).1 commands

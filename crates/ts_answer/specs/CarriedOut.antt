@@ -17,7 +17,7 @@ use Rattle.ts_answer.specs.declared.effect.Effect.TheVariants.{Nothing, Pages, S
 use Rattle.ts_answer.specs.declared.stop.Stop.{Stop}
 use Rattle.ts_answer.specs.declared.stop.Stop.TheVariants.{Refused, Failed, Memory}
 use Rattle.ts_answer.specs.Answer.{outcome}
-use Rattle.ts_command.specs.Writing.{is_writing}
+use Rattle.ts_command.specs.Boundary.{is_writing}
 use Rattle.ts_answer.specs.Decided.{FitsSlot}
 use Rattle.ts_answer.specs.View.{View, Shows, KeepsRules}
 

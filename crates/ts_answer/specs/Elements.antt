@@ -1,26 +1,60 @@
--- What routines over the elements of a series answer: each tries its refusals in order.
-use Rattle.std.specs.Prelude.{ℕ, ◌-◌, Bool, true, [], ◌++◌, ℤ, List, length, map, slice_get, Option, Some, None}
-use Rattle.std.specs.Prelude.{option_to_list, Ok, is_some}
-use Rattle.std.specs.FinMap.{entries, from_entries, get, insert, remove, len}
+-- Routines on series and elements.
+use Rattle.std.specs.Prelude.{ℕ, ◌-◌, Bool, true, false, [], ◌∷◌, ◌++◌, ℤ, List, length, map, slice_get, Option, Some}
+use Rattle.std.specs.Prelude.{None, Ok, Err, is_some, option_to_list}
+use Rattle.std.specs.List.{fold}
+use Rattle.std.specs.FinMap.{empty, entries, from_entries, get, insert, remove, len}
 use Rattle.ts_base.specs.declared.refusal.Refusal.TheVariants as refusals
-use Rattle.ts_row.specs.declared.value.Literal.{Literal}
-use Rattle.ts_row.specs.Row.{Row, marked}
-use Rattle.ts_row.specs.Element.{Element, seen}
-use Rattle.ts_sheets.specs.Range.{within_range, without_range}
-use Rattle.ts_model.specs.declared.kind.Kind.TheVariants as kinds
-use Rattle.ts_model.specs.Catalogue.{Elements, Series, Catalogue, columns_of, quota_of, shape_of}
-use Rattle.ts_model.specs.Charge.{container_charge}
-use Rattle.ts_model.specs.Kinds.{with_named}
-use Rattle.ts_offset.specs.declared.shape.Shape.{Shape}
-use Rattle.ts_pattern.specs.declared.junction.Junction.{Junction}
-use Rattle.ts_entry.specs.Entry.{Entry}
-use Rattle.ts_entry.specs.Reading.{reading, clipped, counted, entry_number}
 use Rattle.ts_base.specs.Answer.{within_rows}
-use Rattle.ts_combine.specs.Combine.{Side, joined}
-use Rattle.ts_combine.specs.Lag.{lagged}
-use Rattle.ts_answer.specs.Reply.{count_line, stamp_line, elements_text, entries_text}
-use Rattle.ts_answer.specs.Refusals.{Tried, ◌>>=◌, Answered, reached, refused_if, wanted, known, beyond_old_format}
-use Rattle.ts_answer.specs.Refusals.{a_row, row_at, a_place, an_address, within_quota}
+use Rattle.ts_row.specs.declared.value.Literal.{Literal}
+use Rattle.ts_row.specs.Row.{Row, marked, Element, seen}
+use Rattle.ts_pattern.specs.declared.junction.Junction.{Junction}
+use Rattle.ts_offset.specs.Grid.{grid_of, GridPlan}
+use Rattle.ts_offset.specs.declared.shape.Shape.{Shape}
+use Rattle.ts_offset.specs.declared.shape.Shape.TheVariants as shapes
+use Rattle.ts_expr.specs.declared.function.Function.{Function}
+use Rattle.ts_expr.specs.Aggregates.{item, bound}
+use Rattle.ts_running.specs.Grammar.{read_column, read_exprs}
+use Rattle.ts_running.specs.Binding.{binding}
+use Rattle.ts_running.specs.Rows.{running, scales_of, applied_rows}
+use Rattle.ts_sheets.specs.Stamped.{within_range, without_range}
+use Rattle.ts_model.specs.declared.kind.Kind.TheVariants as kinds
+use Rattle.ts_model.specs.Catalogue.{Irregular, Regular, Catalogue, columns_of, quota_of, shape_of, Elements, Series}
+use Rattle.ts_model.specs.Catalogue.{with_named, without}
+use Rattle.ts_model.specs.Charge.{container_charge}
+use Rattle.ts_entry.specs.Entry.{Entry, reading, clipped, counted, entry_number}
+use Rattle.ts_combine.specs.Combine.{Side, joined, lagged}
+use Rattle.ts_answer.specs.Reply.{ok_line, stamp_line, elements_text, entries_text, count_line, folded_text, Tried}
+use Rattle.ts_answer.specs.Reply.{Answered, reached, refused_if, wanted, known, beyond_old_format, a_new_name}
+use Rattle.ts_answer.specs.Reply.{a_calendar, a_row, row_at, a_place, an_address, within_quota}
+unfoldable use Rattle.ts_answer.specs.Reply.{◌>>=◌}
+use Rattle.ts_rolling.specs.Sets.{window_key, control_key, Planned, planned, control_of, windows, live, window_elements}
+
+-- What the routines that create series answer: each tries its refusals in order.
+
+unfoldable pub create_irregular : List ℕ → List ℕ → Catalogue → Tried Answered
+create_irregular key container cat = do
+  there ← wanted container cat.containers
+  new ← a_new_name kinds.Series key cat
+  Ok (ok_line, with_named kinds.Series key (record { container = container; kind = Irregular; elements = empty }) cat)
+
+-- a series on the grid of a calendar, whose origin is moved to an on start
+unfoldable pub create_regular : List ℕ → List ℕ → ℤ → List ℕ → Catalogue → Tried Answered
+create_regular key calendar origin container cat = do
+  plan ← a_calendar calendar cat
+  there ← wanted container cat.containers
+  new ← a_new_name kinds.Series key cat
+  grid ← grid_of plan origin
+  Ok (
+    stamp_line grid.origin,
+    with_named kinds.Series key (record {
+      container = container;
+      kind = Regular calendar grid.origin;
+      elements =
+          empty;
+    }) cat,
+  )
+
+-- What routines over the elements of a series answer: each tries its refusals in order.
 
 -- the catalogue with these elements of a series
 abbrev pub with_elements : List ℕ → Series → Elements → Catalogue → Catalogue
@@ -205,3 +239,96 @@ lag_series key by cat = do
   shape ← known (shape_of cat series.kind)
   rows ← lagged shape by (seen_elements series.elements)
   Ok (elements_text (columns_of cat series) rows, cat)
+
+-- What routines that go over the elements of a series answer, a row for each: running values of a column, and
+-- expressions. Each tries its refusals in order.
+
+-- for each element from one stamp to another what a function makes of a column's values in it and the n - 1 before it
+-- there
+unfoldable pub running_values : Function → List ℕ → List ℕ → ℕ → ℤ → ℤ → Catalogue → Tried Answered
+running_values function text key n from to cat = do
+  column ← read_column text
+  series ← wanted key cat.series
+  b ← bound (columns_of cat series) (item function column)
+  es ← within_rows (within_range from to (seen_elements series.elements))
+  Ok (folded_text (b.scale ∷ []) (running function b.column n es), cat)
+
+-- for each element from one stamp to another the values of expressions over its own
+unfoldable pub apply_exprs : List ℕ → List ℕ → ℤ → ℤ → Catalogue → Tried Answered
+apply_exprs text key from to cat = do
+  exprs ← read_exprs text
+  series ← wanted key cat.series
+  b ← binding (columns_of cat series) exprs
+  es ← within_rows (within_range from to (seen_elements series.elements))
+  rows ← applied_rows b es
+  Ok (folded_text (scales_of b) rows, cat)
+
+-- What the routines of rolling sets answer, composed of what single commands answer: each tries its refusals in order.
+
+-- the number of windows that a set keeps, and its control; without a control the set is unknown
+abbrev pub a_control : List ℕ → Catalogue → Tried (ℕ × Series)
+a_control set cat = known (control_of set cat)
+
+-- a grid, where elements can stand on one alone
+abbrev pub grid_in : Shape → Tried GridPlan
+grid_in shapes.Irregular = Err refusals.NotRegular
+grid_in (shapes.Regular grid) = Ok grid
+
+-- the grid of a control
+unfoldable pub control_grid : Series → Catalogue → Tried GridPlan
+control_grid control cat = do
+  shape ← known (shape_of cat control.kind)
+  grid_in shape
+
+-- the catalogue without these windows of a set
+abbrev pub without_windows : List ℕ → List ℕ → Catalogue → Catalogue
+without_windows set js cat = fold (λ c j. without kinds.Series (window_key set j) c) cat js
+
+-- the catalogue with a window that is to be made, or the same
+unfoldable pub with_window : Bool → List ℕ → List ℕ → Catalogue → Tried Catalogue
+with_window true key container cat = do
+  answered ← create_irregular key container cat
+  Ok answered.1
+with_window false key container cat = Ok cat
+
+-- a set's control is made: a regular series, whose key tells how many windows are kept
+unfoldable pub roll_create : List ℕ → List ℕ → ℤ → List ℕ → ℕ → Catalogue → Tried Answered
+roll_create set calendar origin container n cat = do
+  plan ← a_calendar calendar cat
+  there ← wanted container cat.containers
+  free ← refused_if (is_some (control_of set cat)) refusals.NameTaken
+  create_regular (control_key set n) calendar origin container cat
+
+-- what is too old goes, and the element is put into its window
+abbrev pub put_planned : List ℕ → List ℕ → Planned → ℤ → List Literal → Catalogue → Tried Answered
+put_planned set container plan stamp literals cat = do
+  made ← with_window plan.attach (window_key set plan.window) container (without_windows set plan.purge cat)
+  put_no_dups (window_key set plan.window) stamp literals made
+
+-- An element stands at its stamp in the window that holds it. What is too old goes first; all else is judged without
+-- it.
+unfoldable pub roll_put : List ℕ → ℤ → List Literal → Catalogue → Tried Answered
+roll_put set stamp literals cat = do
+  control ← a_control set cat
+  grid ← control_grid control.1 cat
+  row ← a_row (columns_of cat control.1) literals
+  plan ← planned grid control.0 (live set control.1.container cat) stamp
+  put_planned set control.1.container plan stamp literals cat
+
+-- what is seen in the windows from one stamp to another
+unfoldable pub roll_clip : List ℕ → ℤ → ℤ → Catalogue → Tried Answered
+roll_clip set from to cat = do
+  control ← a_control set cat
+  grid ← control_grid control.1 cat
+  rows ← within_rows (within_range from to (window_elements set control.1.container cat))
+  Ok (elements_text (columns_of cat control.1) rows, cat)
+
+-- the windows and the control go
+unfoldable pub roll_drop : List ℕ → Catalogue → Tried Answered
+roll_drop set cat = do
+  control ← a_control set cat
+  grid ← control_grid control.1 cat
+  Ok (
+    count_line (length (windows set control.1.container cat)),
+    without kinds.Series (control_key set control.0) (without_windows set (live set control.1.container cat) cat),
+  )

@@ -5,13 +5,8 @@ pub mod Decided
 pub mod Elements
 pub mod Outcomes
 pub mod Reading
-pub mod Refusals
 pub mod Reply
-pub mod Rolling
-pub mod RunningValues
-pub mod Series
 pub mod Slots
-pub mod State
 pub mod Stop
 pub mod Tried
 pub mod View

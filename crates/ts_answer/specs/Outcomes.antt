@@ -3,7 +3,7 @@ use Rattle.std.specs.Prelude.{◌≡◌, ℕ, ◌==◌, ◌&&◌, Bool, true, fa
 use Rattle.std.specs.Prelude.{Ok, Err, nat_eq}
 use Rattle.std.specs.List.{count_by, starts_with}
 use Rattle.ts_command.specs.declared.command.Command.{Command}
-use Rattle.ts_answer.specs.State.{State, run_outcome, run_answer, replies}
+use Rattle.ts_answer.specs.Answer.{State, run_outcome, run_answer, replies}
 
 -- the last line of a text, where this line was reached: behind a line feed the next begins, if anything stands there
 abbrev pub last_line_from : List ℕ → List ℕ → List ℕ

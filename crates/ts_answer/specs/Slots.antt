@@ -1,13 +1,13 @@
 -- The slots of names, and those for new ones.
 use Rattle.std.specs.Prelude.{◌≡◌, ℕ, ◌<◌, Some, None, List}
 use Rattle.std.specs.FinMap.{get}
-use Rattle.ts_calendar.specs.Plan.{CalendarPlan}
+use Rattle.ts_calendar.specs.Calendars.{CalendarPlan}
 use Rattle.ts_model.specs.declared.kind.Kind.{Kind}
 use Rattle.ts_model.specs.declared.kind.Kind.TheVariants as kinds
 use Rattle.ts_model.specs.Definitions.{Definitions, CalendarDef, KindDef, table_of, limit, slots, slot_of, vacant_slot}
 use Rattle.ts_model.specs.Definitions.{at_slot}
 use Rattle.ts_layout.specs.Meaning.{Layout, value_of, catalogue_of}
-use Rattle.ts_model.specs.Kinds.{In, named}
+use Rattle.ts_model.specs.Catalogue.{In, named}
 
 -- the lowest empty slot, for a name that is none yet
 pub record IsFreeSlot (kind : Kind) (slot : ℕ) (name : List ℕ) (d : Definitions) : Type 0 where

@@ -1,7 +1,6 @@
 -- What a command sees: the definitions, the places of the pages of each series, and pages, whatever keeps them.
 use Rattle.std.specs.Prelude.{◌≡◌, ℕ, ◌+◌, Bool, IsTrue, length}
-use Rattle.ts_page.specs.Pages.{Contents}
-use Rattle.ts_page.specs.Volume.{first_element_page}
+use Rattle.ts_page.specs.Pages.{Contents, first_element_page}
 use Rattle.ts_space.specs.Directory.{Directory}
 use Rattle.ts_model.specs.Definitions.{Definitions}
 use Rattle.ts_layout.specs.Meaning.{Layout, HoldsLayout, IsSound}

@@ -5,20 +5,15 @@ use Rattle.std.specs.FinMap.{get, get-insert, insert}
 use Rattle.ts_base.specs.declared.refusal.Refusal.TheVariants as refusals
 use Rattle.ts_pattern.specs.declared.junction.Junction.{Junction}
 use Rattle.ts_pattern.specs.declared.junction.Junction.TheVariants.{And, Or}
-use Rattle.ts_pattern.specs.Plan.{Plan}
-use Rattle.ts_pattern.specs.Runs.{has_on}
-use Rattle.ts_calendar.specs.Plan.{CalendarPlan}
-use Rattle.ts_calendar.specs.Calendar.{is_late, is_apart, valid_calendar, joined_calendar, IsValid}
-use Rattle.ts_calendar.specs.Intervals.{IsLaid}
+use Rattle.ts_pattern.specs.Patterns.{Plan, has_on}
+use Rattle.ts_calendar.specs.Calendars.{CalendarPlan, is_late, is_apart, valid_calendar, joined_calendar, IsValid, IsLaid, calendar_text, read_calendar}
 use Rattle.ts_calendar.specs.declared.text.PatternPart.{PatternPart}
 use Rattle.ts_calendar.specs.declared.text.PatternPart.TheVariants.{Named as ByName, Own}
 use Rattle.ts_calendar.specs.declared.text.CalendarText.{CalendarText}
-use Rattle.ts_calendar.specs.Text.{calendar_text, read_calendar}
 use Rattle.ts_calendar.proofs.ValidLemmas.{joined-valid}
 use Rattle.ts_command.specs.declared.command.Command.TheVariants as commands
 use Rattle.ts_model.specs.declared.kind.Kind.TheVariants as kinds
-use Rattle.ts_model.specs.Catalogue.{Catalogue, pattern_of, with_plan, calendar_of}
-use Rattle.ts_model.specs.Kinds.{with_named}
+use Rattle.ts_model.specs.Catalogue.{Catalogue, pattern_of, with_plan, calendar_of, with_named}
 use Rattle.ts_model.proofs.OrderLemmas.{total, ties-refl}
 use Rattle.ts_answer.specs.Answer.{Answered, known, wanted, given, a_calendar, a_new_name, outcome, carried_out, create_calendar, join_calendars}
 use Rattle.ts_answer.specs.Reply.{ok_line}

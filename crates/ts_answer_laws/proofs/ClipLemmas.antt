@@ -8,19 +8,16 @@ use Rattle.std.specs.FinMap.{entries, find, get}
 use Rattle.std.specs.Ordering.{int_cmp}
 use Rattle.ts_base.specs.declared.refusal.Refusal.{Refusal}
 use Rattle.ts_base.specs.declared.refusal.Refusal.TheVariants as refusals
-use Rattle.ts_row.specs.Row.{Row}
-use Rattle.ts_row.specs.Element.{Element, seen}
-use Rattle.ts_calendar.specs.Intervals.{IsLaid}
+use Rattle.ts_row.specs.Row.{Row, Element, seen}
+use Rattle.ts_calendar.specs.Calendars.{IsLaid}
 use Rattle.ts_calendar.proofs.StampLemmas.{int_lt_no, int_lt-false}
 use Rattle.ts_command.specs.declared.command.Command.TheVariants as commands
 use Rattle.ts_irregular.specs.Edit.{last_of}
-use Rattle.ts_offset.specs.Walk.{on_starts}
-use Rattle.ts_offset.specs.Grid.{GridPlan, starts_of}
+use Rattle.ts_offset.specs.Grid.{on_starts, GridPlan, starts_of}
 use Rattle.ts_offset.specs.declared.shape.Shape.{Shape}
 use Rattle.ts_offset.specs.declared.shape.Shape.TheVariants as shapes
 use Rattle.ts_offset.proofs.ListedLemmas.{listed-start, start-listed, listed-rise}
-use Rattle.ts_entry.specs.Entry.{Entry, filled}
-use Rattle.ts_entry.specs.Reading.{entry_at, is_reached, starts_to_last, reading, clipped}
+use Rattle.ts_entry.specs.Entry.{Entry, filled, entry_at, is_reached, starts_to_last, reading, clipped}
 use Rattle.ts_base.specs.Answer.{within_rows}
 use Rattle.ts_model.specs.Catalogue.{Catalogue, Series, columns_of, shape_of}
 use Rattle.ts_answer.specs.Answer.{Answered, Tried, ◌>>=◌, outcome, carried_out, wanted, known, a_reading, clip_series, count_clip}

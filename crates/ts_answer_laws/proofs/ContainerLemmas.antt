@@ -10,11 +10,9 @@ use Rattle.std.specs.declared.cmp.Ordering.{Ordering}
 use Rattle.std.specs.declared.cmp.Ordering.TheVariants.{Less, Greater}
 use Rattle.std.specs.Ordering.{is_eq, eq_by_cmp}
 use Rattle.std.specs.Str.{bytes_eq}
-use Rattle.ts_row.specs.RowType.{Heading}
+use Rattle.ts_row.specs.Row.{Heading, Row}
 use Rattle.ts_row.specs.declared.kind.Column.{Column}
-use Rattle.ts_row.specs.Row.{Row}
-use Rattle.ts_expr.specs.Grammar.{read_list}
-use Rattle.ts_expr.specs.Binding.{Binding, binding}
+use Rattle.ts_expr.specs.Aggregates.{read_list, Binding, binding}
 use Rattle.ts_command.specs.declared.command.Command.TheVariants as commands
 use Rattle.ts_model.specs.Catalogue.{Container, Series, Catalogue, name_cmp, columns_of, series_in}
 use Rattle.ts_model.proofs.OrderLemmas.{total, both, less, turned, eq_ties, ties-refl, ties-same}

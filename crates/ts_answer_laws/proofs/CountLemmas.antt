@@ -4,16 +4,14 @@ use Rattle.std.proofs.Common.{◌≡◌, ℕ, Bool, true, false, cond, not, ◌&
 use Rattle.std.specs.FinMap.{entries}
 use Rattle.ts_row.specs.declared.value.Value.{Value}
 use Rattle.ts_row.specs.declared.value.Value.TheVariants.{Number}
-use Rattle.ts_row.specs.Row.{Values, Row, visible}
-use Rattle.ts_row.specs.Element.{Element, seen}
-use Rattle.ts_sheets.specs.Range.{is_within, within_range}
+use Rattle.ts_row.specs.Row.{Values, Row, visible, Element, seen}
+use Rattle.ts_sheets.specs.Stamped.{is_within, within_range}
 use Rattle.ts_offset.specs.declared.shape.Shape.TheVariants as shapes
-use Rattle.ts_entry.specs.Entry.{Entry, filled}
-use Rattle.ts_entry.specs.Reading.{reading}
+use Rattle.ts_entry.specs.Entry.{Entry, filled, reading}
 use Rattle.ts_expr.specs.declared.function.Function.{Function}
 use Rattle.ts_expr.specs.declared.function.Function.TheVariants.{Count}
 use Rattle.ts_expr.specs.declared.item.BoundItem.{BoundItem}
-use Rattle.ts_expr.specs.Fold.{is_null, value_at, values_of, made, folded}
+use Rattle.ts_expr.specs.Aggregates.{is_null, value_at, values_of, made, folded}
 use Rattle.ts_model.specs.Catalogue.{shape_of}
 use Rattle.ts_answer.specs.Answer.{Answered, Tried, outcome, carried_out, wanted, a_reading, scales_of, count_clip}
 use Rattle.ts_answer.specs.Reply.{count_line, folded_text}

@@ -4,16 +4,14 @@ use Rattle.std.proofs.Common.{◌≡◌, ℕ, Bool, cond, not, ◌&&◌, Some, O
 use Rattle.std.proofs.Math.Bool.{and-true}
 use Rattle.std.proofs.lemmas.Int.{ints}
 use Rattle.std.specs.FinMap.{entries, get}
-use Rattle.ts_row.specs.Element.{seen}
+use Rattle.ts_row.specs.Row.{seen}
 use Rattle.ts_calendar.proofs.StampLemmas.{int_lt_yes, int_lt_no, int_lt-false}
 use Rattle.ts_command.specs.declared.command.Command.TheVariants as commands
 use Rattle.ts_irregular.specs.Edit.{last_of}
-use Rattle.ts_offset.specs.Walk.{on_starts}
-use Rattle.ts_offset.specs.Grid.{starts_of}
+use Rattle.ts_offset.specs.Grid.{on_starts, starts_of}
 use Rattle.ts_offset.specs.declared.shape.Shape.{Shape}
 use Rattle.ts_offset.specs.declared.shape.Shape.TheVariants as shapes
-use Rattle.ts_entry.specs.Entry.{Entry, filled}
-use Rattle.ts_entry.specs.Reading.{entry_at, is_reached, starts_to_last, reading, clipped, counted, last_ones}
+use Rattle.ts_entry.specs.Entry.{Entry, filled, entry_at, is_reached, starts_to_last, reading, clipped, counted, last_ones}
 use Rattle.ts_base.specs.Answer.{within_rows}
 use Rattle.ts_model.specs.Catalogue.{Series, Catalogue, columns_of, shape_of}
 use Rattle.ts_answer.specs.Answer.{Answered, outcome, carried_out, wanted, a_reading, clip_series, clip_counted}

@@ -8,11 +8,9 @@ use Rattle.std.specs.Ordering.{int_cmp, int_eq}
 use Rattle.ts_base.specs.Moment.{is_between}
 use Rattle.ts_base.specs.declared.refusal.Refusal.{Refusal}
 use Rattle.ts_row.specs.declared.value.Literal.{Literal}
-use Rattle.ts_row.specs.Element.{Element}
-use Rattle.ts_row.specs.Row.{Row}
+use Rattle.ts_row.specs.Row.{Element, Row}
 use Rattle.ts_command.specs.declared.command.Command.TheVariants as commands
-use Rattle.ts_sheets.specs.Placing.{place_for}
-use Rattle.ts_sheets.specs.Range.{is_within, within_range, without_range}
+use Rattle.ts_sheets.specs.Stamped.{place_for, is_within, within_range, without_range}
 use Rattle.ts_model.specs.Catalogue.{Elements, SeriesKind, Irregular, Regular, Series, Catalogue, columns_of, quota_of}
 use Rattle.ts_model.specs.Charge.{container_charge}
 use Rattle.ts_answer.specs.Answer.{Answered, outcome, carried_out, put_element, delete_element, delete_range, Tried, reached, wanted, a_row, an_address, a_place, placed, within_quota, with_element, with_elements, count_if_any, count_at, without_one}

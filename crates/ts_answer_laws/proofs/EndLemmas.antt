@@ -6,8 +6,7 @@ use Rattle.std.proofs.lemmas.List.{get_or_default}
 use Rattle.std.proofs.lemmas.Option.{slice_get-get_or}
 use Rattle.std.specs.FinMap.{entries}
 use Rattle.std.specs.Option.{option_to_list}
-use Rattle.ts_row.specs.Row.{Row}
-use Rattle.ts_row.specs.Element.{Element, seen}
+use Rattle.ts_row.specs.Row.{Row, Element, seen}
 use Rattle.ts_model.specs.Catalogue.{Catalogue, Series, columns_of}
 use Rattle.ts_answer.specs.Answer.{Answered, outcome, carried_out, wanted, get_first_element, get_last_element, last_element}
 use Rattle.ts_answer.specs.Elements.{first_element}

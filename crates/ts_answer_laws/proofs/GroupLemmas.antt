@@ -7,23 +7,17 @@ use Rattle.std.proofs.lemmas.List.Kept.{AllPairs-filter}
 use Rattle.std.proofs.lemmas.Option.{slice_get-get_or}
 use Rattle.std.specs.FinMap.{get}
 use Rattle.ts_base.specs.Moment.{IsStamp}
-use Rattle.ts_row.specs.Row.{Row, visible}
-use Rattle.ts_row.specs.Element.{Element}
-use Rattle.ts_calendar.specs.Plan.{CalendarPlan}
-use Rattle.ts_calendar.specs.Intervals.{IsLaid, IsBefore, start_at}
-use Rattle.ts_offset.specs.Walk.{IsOnStart, on_starts}
-use Rattle.ts_offset.specs.Counting.{starts_between}
-use Rattle.ts_offset.specs.Grid.{IsHeldFrom, held_start}
+use Rattle.ts_row.specs.Row.{Row, visible, Element}
+use Rattle.ts_calendar.specs.Calendars.{CalendarPlan, IsLaid, IsBefore, start_at}
+use Rattle.ts_offset.specs.Grid.{IsOnStart, on_starts, starts_between, IsHeldFrom, held_start}
 use Rattle.ts_offset.proofs.ListedLemmas.{listed-start, start-listed, listed-rise}
 use Rattle.ts_offset.proofs.OwnLemmas.{held-from, from-held}
 use Rattle.ts_offset.proofs.StartLemmas.{start-one}
 use Rattle.ts_base.specs.Answer.{within_rows}
-use Rattle.ts_entry.specs.Intervals.{Group, is_start, held_from, grouped, by_interval}
+use Rattle.ts_entry.specs.Entry.{Group, is_start, held_from, grouped, by_interval}
 use Rattle.ts_expr.specs.declared.item.Item.{Item}
 use Rattle.ts_expr.specs.declared.item.BoundItem.{BoundItem}
-use Rattle.ts_expr.specs.Grammar.{read_list}
-use Rattle.ts_expr.specs.Binding.{Binding, binding}
-use Rattle.ts_expr.specs.Fold.{folded, folded_row}
+use Rattle.ts_expr.specs.Aggregates.{read_list, Binding, binding, folded, folded_row}
 use Rattle.ts_command.specs.declared.command.Command.TheVariants as commands
 use Rattle.ts_model.specs.Catalogue.{Series, Catalogue, columns_of}
 use Rattle.ts_answer.specs.Answer.{Answered, outcome, carried_out, wanted, a_calendar, seen_elements, scales_of, folded_range, aggregate_by}

@@ -3,14 +3,13 @@ use Rattle.std.proofs.Common.{◌≡◌, ℤ, ◌≤ℤ◌, ◌<ℤ◌, Bool, tr
 use Rattle.std.specs.Prelude.{◌↔◌, int_lt}
 use Rattle.ts_base.specs.Moment.{IsStamp}
 use Rattle.ts_base.specs.declared.refusal.Refusal.TheVariants as refusals
-use Rattle.ts_calendar.specs.Plan.{CalendarPlan}
-use Rattle.ts_calendar.specs.Intervals.{IsLaid, IsOnStamp}
+use Rattle.ts_calendar.specs.Calendars.{CalendarPlan, IsLaid, IsOnStamp}
 use Rattle.ts_calendar.proofs.StampLemmas.{int_lt_yes, int_lt_no, int_lt-true, int_lt-false}
 use Rattle.ts_offset.specs.Grid.{GridPlan, held_start, IsHeldBefore, IsHeldFrom}
 use Rattle.ts_offset.specs.declared.shape.Shape.TheVariants as shapes
 use Rattle.ts_offset.proofs.OwnLemmas.{held-from, from-held}
 use Rattle.ts_model.specs.Catalogue.{Series, Catalogue, shape_of}
-use Rattle.ts_answer.specs.Refusals.{Tried, known, on_grid, an_address}
+use Rattle.ts_answer.specs.Reply.{Tried, known, on_grid, an_address}
 use Rattle.ts_answer.proofs.CallerLemmas.{on_ok}
 
 -- what is told by a start that an origin lets through, by one that it doesn't, and by none

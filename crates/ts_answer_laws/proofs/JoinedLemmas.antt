@@ -5,8 +5,7 @@ use Rattle.std.proofs.lemmas.Option.{some_pair_parts}
 use Rattle.std.specs.FinMap.{entries, find, get, get-entries, get-from_entries}
 use Rattle.std.specs.Cmp.{int_cmp_total}
 use Rattle.std.specs.Ordering.{eq_by_cmp, int_cmp}
-use Rattle.ts_row.specs.Row.{Row, visible}
-use Rattle.ts_row.specs.Element.{Element, seen}
+use Rattle.ts_row.specs.Row.{Row, visible, Element, seen}
 use Rattle.ts_pattern.specs.declared.junction.Junction.{Junction}
 use Rattle.ts_pattern.specs.declared.junction.Junction.TheVariants.{And, Or}
 use Rattle.ts_irregular.specs.Edit.{element_at}

@@ -5,14 +5,12 @@ use Rattle.ts_command.specs.declared.command.Command.{Command}
 use Rattle.ts_command.specs.declared.command.Command.TheVariants as commands
 use Rattle.ts_model.specs.declared.kind.Kind.{Kind}
 use Rattle.ts_model.specs.declared.kind.Kind.TheVariants as kinds
-use Rattle.ts_model.specs.Catalogue.{Catalogue}
-use Rattle.ts_model.specs.Kinds.{is_used, without}
+use Rattle.ts_model.specs.Catalogue.{Catalogue, is_used, without}
 use Rattle.ts_answer.specs.Answer.{Answered, Tried, ◌>>=◌, settled, outcome, answer, carried_out, create_row_type, drop_definition, create_pattern, turn_pattern, join_patterns, show_pattern, create_calendar, join_calendars, show_calendar, count_starts, find_start, list_starts, create_container, container_usage, create_irregular, create_regular, drop_series, list_series, put_element, put_no_dups, insert_element, update_element, delete_element, delete_range, mark_element, get_element, get_last_element, count_elements, get_first_element, get_nth_element, clip_series, count_clip, clip_counted, join_series, lag_series, aggregate_by, aggregate_range, aggregate_all, running_values, apply_exprs}
 use Rattle.ts_row.specs.declared.value.Literal.{Literal}
-use Rattle.ts_rolling.specs.Keys.{window_key, control_key}
+use Rattle.ts_rolling.specs.Sets.{window_key, control_key, live}
 use Rattle.ts_rolling.specs.KeyLaws.{KeysAreReadExactly}
-use Rattle.ts_rolling.specs.Sets.{live}
-use Rattle.ts_answer.specs.Rolling.{roll_create, roll_put, roll_clip, roll_drop}
+use Rattle.ts_answer.specs.Elements.{roll_create, roll_put, roll_clip, roll_drop}
 use Rattle.ts_answer_laws.specs.SeriesLaws.{SeriesKeepTheirShapes}
 use Rattle.ts_answer_laws.proofs.RollingLemmas.{less_is, purge_loose, put_keeps, drop_keeps}
 use Rattle.ts_answer_laws.proofs.ShapeLemmas.{Keeps, not_so, shapes_stay, whole, edited, made, dropped}

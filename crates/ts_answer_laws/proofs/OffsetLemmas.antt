@@ -6,17 +6,14 @@ use Rattle.std.proofs.lemmas.List.Kept.{AllPairs-filter}
 use Rattle.std.proofs.lemmas.Option.{slice_get-map, option_and_then_some, some_pair_parts}
 use Rattle.std.specs.FinMap.{entries}
 use Rattle.std.specs.Option.{option_to_list}
-use Rattle.ts_row.specs.Row.{Row}
-use Rattle.ts_row.specs.Element.{Element, seen}
-use Rattle.ts_calendar.specs.Intervals.{IsLaid}
+use Rattle.ts_row.specs.Row.{Row, Element, seen}
+use Rattle.ts_calendar.specs.Calendars.{IsLaid}
 use Rattle.ts_calendar.proofs.StampLemmas.{int_lt_yes, int_lt_no, int_lt-false}
 use Rattle.ts_irregular.specs.Edit.{element_at, last_of}
-use Rattle.ts_offset.specs.Walk.{on_starts}
-use Rattle.ts_offset.specs.Grid.{GridPlan, starts_of, starts_before, stamp_of}
+use Rattle.ts_offset.specs.Grid.{on_starts, GridPlan, starts_of, starts_before, stamp_of}
 use Rattle.ts_offset.specs.declared.shape.Shape.TheVariants as shapes
-use Rattle.ts_entry.specs.Entry.{Entry}
-use Rattle.ts_entry.specs.Reading.{entry_at, entry_number, is_reached, starts_to_last, reading}
-use Rattle.ts_combine.specs.Lag.{from_origin, start_before, lagged_at, lagged}
+use Rattle.ts_entry.specs.Entry.{Entry, entry_at, entry_number, is_reached, starts_to_last, reading}
+use Rattle.ts_combine.specs.Combine.{from_origin, start_before, lagged_at, lagged}
 use Rattle.ts_model.specs.Catalogue.{Series, columns_of, shape_of}
 use Rattle.ts_answer.specs.Answer.{outcome, carried_out, wanted, known, a_reading, get_nth_element, lag_series}
 use Rattle.ts_answer.specs.Reply.{elements_text, entries_text}

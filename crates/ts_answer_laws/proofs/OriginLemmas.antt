@@ -4,18 +4,14 @@ use Rattle.std.specs.Prelude.{int_lt, slice_get}
 use Rattle.std.specs.FinMap.{empty}
 use Rattle.std.proofs.lemmas.Int.{ints}
 use Rattle.ts_base.specs.Moment.{IsStamp}
-use Rattle.ts_calendar.specs.Plan.{CalendarPlan}
-use Rattle.ts_calendar.specs.Intervals.{IsLaid, IsOnStamp}
+use Rattle.ts_calendar.specs.Calendars.{CalendarPlan, IsLaid, IsOnStamp}
 use Rattle.ts_calendar.proofs.StampLemmas.{int_lt_yes, int_lt-true}
-use Rattle.ts_offset.specs.Walk.{IsOnStart, on_starts}
-use Rattle.ts_offset.specs.Counting.{cal_stamp}
-use Rattle.ts_offset.specs.Grid.{grid_of, held_start, start_or_next}
+use Rattle.ts_offset.specs.Grid.{IsOnStart, on_starts, cal_stamp, grid_of, held_start, start_or_next}
 use Rattle.ts_offset.proofs.OwnLemmas.{held-from, from-held}
 use Rattle.ts_offset.proofs.ListedLemmas.{listed-start, start-listed, listed-rise}
 use Rattle.ts_command.specs.declared.command.Command.TheVariants as commands
 use Rattle.ts_model.specs.declared.kind.Kind.TheVariants as kinds
-use Rattle.ts_model.specs.Catalogue.{Regular, Catalogue}
-use Rattle.ts_model.specs.Kinds.{with_named}
+use Rattle.ts_model.specs.Catalogue.{Regular, Catalogue, with_named}
 use Rattle.ts_answer.specs.Answer.{Answered, outcome, carried_out, create_regular, wanted, a_calendar, a_new_name}
 use Rattle.ts_answer.specs.Reply.{stamp_line}
 use Rattle.ts_answer.proofs.CallerLemmas.{grid-start, on_ok}

@@ -4,14 +4,12 @@ use Rattle.std.proofs.Common.{◌≡◌, ◌≤◌, Bool, cond, Option, Some, No
 use Rattle.std.proofs.lemmas.Bool.{le-ltb, lt-ltb, cases_lt}
 use Rattle.ts_base.specs.declared.refusal.Refusal.{Refusal}
 use Rattle.ts_base.specs.declared.refusal.Refusal.TheVariants as refusals
-use Rattle.ts_row.specs.Row.{Row}
-use Rattle.ts_row.specs.Element.{Element}
+use Rattle.ts_row.specs.Row.{Row, Element}
 use Rattle.ts_pattern.specs.declared.junction.Junction.TheVariants.{And, Or}
-use Rattle.ts_calendar.specs.Calendar.{common_grid}
+use Rattle.ts_calendar.specs.Calendars.{common_grid}
 use Rattle.ts_calendar.specs.declared.grid.CommonGrid.{CommonGrid}
 use Rattle.ts_irregular.specs.Edit.{element_at}
-use Rattle.ts_offset.specs.Counting.{starts_between}
-use Rattle.ts_offset.specs.Grid.{GridPlan}
+use Rattle.ts_offset.specs.Grid.{starts_between, GridPlan}
 use Rattle.ts_offset.specs.declared.shape.Shape.{Shape}
 use Rattle.ts_offset.specs.declared.shape.Shape.TheVariants as shapes
 use Rattle.ts_base.specs.Answer.{within_rows}

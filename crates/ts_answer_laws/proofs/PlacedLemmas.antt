@@ -8,13 +8,11 @@ use Rattle.std.specs.Cmp.{int_ranks}
 use Rattle.std.specs.FinMap.{is_sorted}
 use Rattle.std.specs.FinMap.Entries.{below_all}
 use Rattle.std.proofs.lemmas.Int.{by_lt_z, ints}
-use Rattle.ts_row.specs.Row.{Row}
-use Rattle.ts_row.specs.Element.{Element}
+use Rattle.ts_row.specs.Row.{Row, Element}
 use Rattle.ts_cells.specs.IrregularPage.{AreRising}
 use Rattle.ts_irregular.specs.Edit.{element_at, last_of}
 use Rattle.ts_irregular.proofs.EditLemmas.{int_lt_yes, int_lt_no, AreRising-tail}
-use Rattle.ts_sheets.specs.Chain.{AreLater}
-use Rattle.ts_sheets.specs.Placing.{earlier, last_before, next_second, place_for, unit_after}
+use Rattle.ts_sheets.specs.Stamped.{AreLater, earlier, last_before, next_second, place_for, unit_after}
 use Rattle.ts_sheets.proofs.OrderLemmas.{later_of}
 use Rattle.ts_chain.proofs.EditLemmas.{at_lower, at_higher}
 use Rattle.ts_chain.proofs.LastLemmas.{last_back}

@@ -4,14 +4,11 @@ use Rattle.std.proofs.Common.{◌≡◌, ℕ, Bool, true, false, cond, not, ◌&
 use Rattle.std.proofs.lemmas.Int.{ints}
 use Rattle.std.proofs.lemmas.List.Kept.{AllPairs-filter}
 use Rattle.std.specs.FinMap.{entries, get, insert, get-insert}
-use Rattle.ts_row.specs.Row.{Values, Row, visible}
-use Rattle.ts_row.specs.Element.{Element, seen}
-use Rattle.ts_sheets.specs.Range.{is_within, within_range}
+use Rattle.ts_row.specs.Row.{Values, Row, visible, Element, seen}
+use Rattle.ts_sheets.specs.Stamped.{is_within, within_range}
 use Rattle.ts_expr.specs.declared.item.Item.{Item}
 use Rattle.ts_expr.specs.declared.item.BoundItem.{BoundItem}
-use Rattle.ts_expr.specs.Grammar.{read_list}
-use Rattle.ts_expr.specs.Binding.{Binding, binding}
-use Rattle.ts_expr.specs.Fold.{is_null, value_at, made, folded}
+use Rattle.ts_expr.specs.Aggregates.{read_list, Binding, binding, is_null, value_at, made, folded}
 use Rattle.ts_command.specs.declared.command.Command.TheVariants as commands
 use Rattle.ts_model.specs.Catalogue.{Named, Series, Catalogue, columns_of}
 use Rattle.ts_model.proofs.OrderLemmas.{total, ties-refl}

@@ -6,15 +6,12 @@ use Rattle.std.specs.FinMap.{empty, entries, entries_sorted, get, get-entries, g
 use Rattle.std.specs.Ordering.{eq_by_cmp}
 use Rattle.ts_offset.specs.Grid.{GridPlan}
 use Rattle.ts_model.specs.declared.kind.Kind.TheVariants as kinds
-use Rattle.ts_model.specs.Kinds.{with_named}
-use Rattle.ts_model.specs.Catalogue.{name_cmp, Named, SeriesKind, Irregular, Regular, Elements, Series, Catalogue, is_regular}
+use Rattle.ts_model.specs.Catalogue.{with_named, name_cmp, Named, SeriesKind, Irregular, Regular, Elements, Series, Catalogue, is_regular}
 use Rattle.ts_model.proofs.OrderLemmas.{total, ties-same, both}
-use Rattle.ts_rolling.specs.Keys.{window_key, read_window}
+use Rattle.ts_rolling.specs.Sets.{window_key, read_window, Planned, planned, may_be_window, window_if_any, windows, live}
 use Rattle.ts_rolling.specs.KeyLaws.{KeysAreReadExactly}
-use Rattle.ts_rolling.specs.Plan.{Planned, planned}
 use Rattle.ts_rolling.proofs.PlanLemmas.{all_going}
-use Rattle.ts_rolling.specs.Sets.{may_be_window, window_if_any, windows, live}
-use Rattle.ts_answer.specs.Rolling.{without_windows, with_window}
+use Rattle.ts_answer.specs.Elements.{without_windows, with_window}
 use Rattle.ts_answer.specs.Reply.{ok_line}
 use Rattle.ts_answer.specs.Answer.{Answered, Tried, wanted, a_new_name, with_elements, create_irregular}
 use Rattle.ts_answer_laws.proofs.CameLemmas.{came}

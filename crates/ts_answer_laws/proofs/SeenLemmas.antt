@@ -13,11 +13,10 @@ use Rattle.std.specs.Cmp.{int_cmp_is, int_cmp_total, int_ranked, tied_itself}
 use Rattle.std.specs.declared.cmp.Ordering.{Ordering}
 use Rattle.std.specs.declared.cmp.Ordering.TheVariants.{Less, Equal, Greater}
 use Rattle.std.specs.Ordering.{int_cmp, int_eq, is_eq, is_lt}
-use Rattle.ts_row.specs.Row.{Row}
-use Rattle.ts_row.specs.Element.{Element, seen}
+use Rattle.ts_row.specs.Row.{Row, Element, seen}
 use Rattle.ts_calendar.proofs.StampLemmas.{int_lt_no, int_lt-false}
 use Rattle.ts_irregular.specs.Edit.{last_of}
-use Rattle.ts_entry.specs.Reading.{is_reached}
+use Rattle.ts_entry.specs.Entry.{is_reached}
 use Rattle.ts_model.specs.Catalogue.{Elements, Series}
 use Rattle.ts_answer_laws.specs.ReadingLaws.{IsSeenAt, IsReached}
 use Rattle.ts_answer_laws.proofs.PlacedLemmas.{first, second}

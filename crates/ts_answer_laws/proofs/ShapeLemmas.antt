@@ -5,8 +5,8 @@ use Rattle.std.specs.FinMap.{get, get-insert, get-remove}
 use Rattle.std.specs.Ordering.{eq_by_cmp}
 use Rattle.ts_base.specs.declared.refusal.Refusal.{Refusal}
 use Rattle.ts_base.specs.declared.refusal.Refusal.TheVariants as refusals
-use Rattle.ts_pattern.specs.Plan.{Plan}
-use Rattle.ts_calendar.specs.Plan.{CalendarPlan}
+use Rattle.ts_pattern.specs.Patterns.{Plan}
+use Rattle.ts_calendar.specs.Calendars.{CalendarPlan}
 use Rattle.ts_calendar.specs.declared.text.PatternPart.{PatternPart}
 use Rattle.ts_calendar.specs.declared.text.PatternPart.TheVariants.{Named as ByName, Own}
 use Rattle.ts_calendar.specs.declared.text.CalendarText.{CalendarText}
@@ -14,8 +14,7 @@ use Rattle.ts_offset.specs.declared.shape.Shape.{Shape}
 use Rattle.ts_offset.specs.declared.shape.Shape.TheVariants as shapes
 use Rattle.ts_model.specs.declared.kind.Kind.{Kind}
 use Rattle.ts_model.specs.declared.kind.Kind.TheVariants as kinds
-use Rattle.ts_model.specs.Catalogue.{name_cmp, Named, Elements, SeriesKind, Irregular, Regular, Series, Catalogue, pattern_of, with_plan, calendar_of, calendar_named, shape_of}
-use Rattle.ts_model.specs.Kinds.{In, named, with_named, without, is_used}
+use Rattle.ts_model.specs.Catalogue.{name_cmp, Named, Elements, SeriesKind, Irregular, Regular, Series, Catalogue, pattern_of, with_plan, calendar_of, calendar_named, shape_of, In, named, with_named, without, is_used}
 use Rattle.ts_model.proofs.OrderLemmas.{total, ties-same}
 use Rattle.ts_answer.specs.Answer.{refused_if, known, wanted, unused, a_new_name, with_elements}
 use Rattle.ts_answer_laws.proofs.CameLemmas.{came}

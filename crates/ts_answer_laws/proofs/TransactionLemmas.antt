@@ -6,13 +6,11 @@ use Rattle.ts_command.specs.declared.command.Command.{Command}
 use Rattle.ts_command.specs.declared.command.Command.TheVariants as commands
 use Rattle.ts_command.specs.declared.boundary.Boundary.{Boundary}
 use Rattle.ts_command.specs.declared.boundary.Boundary.TheVariants.{Opens, Commits, RollsBack, Alone}
-use Rattle.ts_command.specs.Boundary.{boundary_of}
-use Rattle.ts_command.specs.Writing.{is_writing}
-use Rattle.ts_command.specs.Script.{Request}
+use Rattle.ts_command.specs.Boundary.{boundary_of, is_writing}
+use Rattle.ts_command.specs.Grammar.{Request}
 use Rattle.ts_model.specs.Catalogue.{Catalogue}
 use Rattle.ts_answer.specs.Reply.{ok_line, number_line, refusal_line}
-use Rattle.ts_answer.specs.Answer.{Tried, Answered, ◌>>=◌, refused_if, outcome, settled, answer}
-use Rattle.ts_answer.specs.State.{State, Transaction, resting, opened, begun, counted, within_transaction, outside, inside, carried_out_in, run_outcome, run_answer}
+use Rattle.ts_answer.specs.Answer.{Tried, Answered, ◌>>=◌, refused_if, outcome, settled, answer, State, Transaction, resting, opened, begun, counted, within_transaction, outside, inside, carried_out_in, run_outcome, run_answer}
 use Rattle.ts_answer.proofs.CallerLemmas.{run_refused, run_came, misread_refused, outside_refused, outside_came, opened_outside, committed_inside, rolled_back_inside, refused_inside, came_inside}
 use Rattle.ts_answer_laws.specs.TransactionLaws.{said_to, behind, IsCommit, OnlyCommitsMoveTheBase, ArePlain, WhatIsRolledBackLeavesNothing, counted_at, accepted_of, HavePlaces, WhatIsCommittedIsMade, IsFew, TransactionsAreNeverOverfull}
 use Rattle.ts_answer_laws.proofs.ReadingLemmas.{leaves}

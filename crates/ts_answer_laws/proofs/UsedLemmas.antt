@@ -10,13 +10,12 @@ use Rattle.std.specs.declared.cmp.Ordering.{Ordering}
 use Rattle.std.specs.declared.cmp.Ordering.TheVariants.{Less, Equal, Greater}
 use Rattle.std.specs.Ordering.{is_eq, is_lt, eq_by_cmp}
 use Rattle.ts_base.specs.declared.refusal.Refusal.TheVariants as refusals
-use Rattle.ts_pattern.specs.Plan.{Plan}
+use Rattle.ts_pattern.specs.Patterns.{Plan}
 use Rattle.ts_calendar.specs.declared.text.PatternPart.{PatternPart}
 use Rattle.ts_calendar.specs.declared.text.PatternPart.TheVariants.{Named as ByName, Own}
 use Rattle.ts_calendar.specs.declared.text.CalendarText.{CalendarText}
 use Rattle.ts_command.specs.declared.command.Command.TheVariants as commands
-use Rattle.ts_model.specs.Catalogue.{SeriesKind, Irregular, Regular, Series, Catalogue, name_cmp}
-use Rattle.ts_model.specs.Kinds.{is_named, has_calendar, is_on_calendar, has_regular}
+use Rattle.ts_model.specs.Catalogue.{SeriesKind, Irregular, Regular, Series, Catalogue, name_cmp, is_named, has_calendar, is_on_calendar, has_regular}
 use Rattle.ts_model.proofs.OrderLemmas.{total, eq_ties, ties-refl, ties-same}
 use Rattle.ts_answer.specs.Answer.{Answered, ◌>>=◌, wanted, outcome, carried_out, drop_definition, refused_if}
 use Rattle.ts_answer.proofs.CallerLemmas.{on_ok, on_err, refused, wanted-there}

@@ -6,18 +6,13 @@ use Rattle.std.specs.declared.cmp.Ordering.TheVariants.{Less}
 use Rattle.ts_base.specs.Moment.{IsStamp}
 use Rattle.ts_row.specs.declared.kind.Column.{Column}
 use Rattle.ts_row.specs.declared.value.Value.TheVariants.{Number}
-use Rattle.ts_row.specs.Row.{Values, Row, visible}
-use Rattle.ts_row.specs.Element.{Element}
-use Rattle.ts_calendar.specs.Plan.{CalendarPlan}
-use Rattle.ts_calendar.specs.Intervals.{IsLaid}
-use Rattle.ts_offset.specs.Walk.{IsOnStart}
-use Rattle.ts_offset.specs.Grid.{IsHeldFrom}
+use Rattle.ts_row.specs.Row.{Values, Row, visible, Element}
+use Rattle.ts_calendar.specs.Calendars.{CalendarPlan, IsLaid}
+use Rattle.ts_offset.specs.Grid.{IsOnStart, IsHeldFrom}
 use Rattle.ts_expr.specs.declared.function.Function.TheVariants.{Count}
 use Rattle.ts_expr.specs.declared.item.Item.{Item}
 use Rattle.ts_expr.specs.declared.item.BoundItem.{BoundItem}
-use Rattle.ts_expr.specs.Grammar.{read_list}
-use Rattle.ts_expr.specs.Binding.{Binding, binding}
-use Rattle.ts_expr.specs.Fold.{is_null, value_at, folded}
+use Rattle.ts_expr.specs.Aggregates.{read_list, Binding, binding, is_null, value_at, folded}
 use Rattle.ts_command.specs.declared.command.Command.TheVariants as commands
 use Rattle.ts_model.specs.Catalogue.{Irregular, Elements, Series, Catalogue, name_cmp, columns_of}
 use Rattle.ts_answer.specs.Answer.{Answered, outcome, a_calendar, scales_of, with_elements}

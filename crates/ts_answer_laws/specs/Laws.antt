@@ -7,21 +7,17 @@ use Rattle.ts_base.specs.declared.refusal.Refusal.{Refusal}
 use Rattle.ts_base.specs.declared.refusal.Refusal.TheVariants as refusals
 use Rattle.ts_base.specs.declared.unit.Unit.TheVariants.{Day}
 use Rattle.ts_page.specs.Pages.{Contents}
-use Rattle.ts_pattern.specs.Plan.{Plan}
-use Rattle.ts_pattern.specs.Runs.{run}
-use Rattle.ts_calendar.specs.Plan.{CalendarPlan}
-use Rattle.ts_calendar.specs.Calendar.{IsValid}
-use Rattle.ts_calendar.specs.Intervals.{IsLaid}
+use Rattle.ts_pattern.specs.Patterns.{Plan, run}
+use Rattle.ts_calendar.specs.Calendars.{CalendarPlan, IsValid, IsLaid, calendar_text}
 use Rattle.ts_calendar.specs.declared.text.PatternPart.TheVariants.{Named as ByName}
 use Rattle.ts_calendar.specs.declared.text.CalendarText.{CalendarText}
-use Rattle.ts_calendar.specs.Text.{calendar_text}
 use Rattle.ts_command.specs.declared.command.Command.{Command}
 use Rattle.ts_command.specs.declared.command.Command.TheVariants as commands
-use Rattle.ts_command.specs.Script.{Request}
+use Rattle.ts_command.specs.Grammar.{Request}
 use Rattle.ts_model.specs.Catalogue.{Catalogue, calendar_of}
 use Rattle.ts_answer.specs.Answer.{Answered, answer, outcome, a_calendar}
 use Rattle.ts_answer.specs.CarriedOut.{Grows}
-use Rattle.ts_command.specs.Writing.{is_writing}
+use Rattle.ts_command.specs.Boundary.{is_writing}
 use Rattle.ts_answer.specs.Reply.{refusal_line, count_line, counts_line, number_line, pattern_lines, calendar_lines}
 use Rattle.ts_answer.specs.Reply.{stamps_text, series_text}
 use Rattle.ts_multi.specs.Touched.{objects}

@@ -3,8 +3,7 @@ use Rattle.std.specs.Prelude.{◌≡◌, Option, Some, None, List, ℕ, Contains
 use Rattle.std.specs.FinMap.{get}
 use Rattle.ts_command.specs.declared.command.Command.{Command}
 use Rattle.ts_command.specs.declared.command.Command.TheVariants as commands
-use Rattle.ts_model.specs.Catalogue.{Catalogue}
-use Rattle.ts_model.specs.Kinds.{named}
+use Rattle.ts_model.specs.Catalogue.{Catalogue, named}
 use Rattle.ts_multi.specs.declared.object.Object.{Object}
 
 -- the catalogue after has the same format and as many pages, and the same under the name of each object but these

@@ -5,14 +5,12 @@ use Rattle.std.specs.Prelude.{None, Ok, Err, List, [], ◌++◌, length, AllPair
 use Rattle.std.specs.FinMap.{get}
 use Rattle.ts_base.specs.declared.refusal.Refusal.TheVariants as refusals
 use Rattle.ts_row.specs.declared.kind.Column.{Column}
-use Rattle.ts_row.specs.Row.{Row}
-use Rattle.ts_row.specs.Element.{Element}
+use Rattle.ts_row.specs.Row.{Row, Element}
 use Rattle.ts_pattern.specs.declared.junction.Junction.{Junction}
 use Rattle.ts_pattern.specs.declared.junction.Junction.TheVariants.{And, Or}
-use Rattle.ts_calendar.specs.Intervals.{IsLaid}
+use Rattle.ts_calendar.specs.Calendars.{IsLaid}
 use Rattle.ts_command.specs.declared.command.Command.TheVariants as commands
-use Rattle.ts_offset.specs.Walk.{IsOnStart}
-use Rattle.ts_offset.specs.Grid.{GridPlan, stamp_of}
+use Rattle.ts_offset.specs.Grid.{IsOnStart, GridPlan, stamp_of}
 use Rattle.ts_offset.specs.Shape.{IsLaidOut}
 use Rattle.ts_offset.specs.declared.shape.Shape.{Shape}
 use Rattle.ts_offset.specs.declared.shape.Shape.TheVariants as shapes

@@ -6,18 +6,15 @@ use Rattle.ts_base.specs.Moment.{IsStamp}
 use Rattle.ts_base.specs.declared.refusal.Refusal.{Refusal}
 use Rattle.ts_base.specs.declared.refusal.Refusal.TheVariants as refusals
 use Rattle.ts_row.specs.declared.value.Literal.{Literal}
-use Rattle.ts_calendar.specs.Plan.{CalendarPlan}
-use Rattle.ts_calendar.specs.Intervals.{IsLaid, IsOnStamp}
+use Rattle.ts_calendar.specs.Calendars.{CalendarPlan, IsLaid, IsOnStamp}
 use Rattle.ts_calendar.specs.declared.text.CalendarText.{CalendarText}
 use Rattle.ts_command.specs.declared.command.Command.{Command}
 use Rattle.ts_command.specs.declared.command.Command.TheVariants as commands
-use Rattle.ts_offset.specs.Walk.{IsOnStart}
+use Rattle.ts_offset.specs.Grid.{IsOnStart, GridPlan, IsHeldBefore, IsHeldFrom}
 use Rattle.ts_offset.specs.declared.shape.Shape.{Shape}
 use Rattle.ts_offset.specs.declared.shape.Shape.TheVariants as shapes
-use Rattle.ts_offset.specs.Grid.{GridPlan, IsHeldBefore, IsHeldFrom}
 use Rattle.ts_model.specs.declared.kind.Kind.TheVariants as kinds
-use Rattle.ts_model.specs.Catalogue.{Catalogue, Irregular, Regular, Series, shape_of}
-use Rattle.ts_model.specs.Kinds.{with_named}
+use Rattle.ts_model.specs.Catalogue.{Catalogue, Irregular, Regular, Series, shape_of, with_named}
 use Rattle.ts_answer.specs.Answer.{Answered, answer, outcome, a_calendar, an_address}
 use Rattle.ts_answer.specs.Reply.{stamp_line}
 use Rattle.ts_answer_laws.specs.Edited.{Adds, Puts, TakesAway}

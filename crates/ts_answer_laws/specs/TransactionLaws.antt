@@ -4,13 +4,11 @@ use Rattle.std.specs.Prelude.{IfSome, Ok, Err, pos}
 use Rattle.ts_command.specs.declared.command.Command.{Command}
 use Rattle.ts_command.specs.declared.command.Command.TheVariants as commands
 use Rattle.ts_command.specs.declared.boundary.Boundary.TheVariants.{Commits}
-use Rattle.ts_command.specs.Boundary.{boundary_of}
-use Rattle.ts_command.specs.Writing.{is_writing}
-use Rattle.ts_command.specs.Script.{Request}
+use Rattle.ts_command.specs.Boundary.{boundary_of, is_writing}
+use Rattle.ts_command.specs.Grammar.{Request}
 use Rattle.ts_model.specs.Catalogue.{Catalogue}
 use Rattle.ts_answer.specs.Reply.{ok_line, number_line}
-use Rattle.ts_answer.specs.Answer.{outcome, answer}
-use Rattle.ts_answer.specs.State.{State, resting, committed, run_outcome, run_answer}
+use Rattle.ts_answer.specs.Answer.{outcome, answer, State, resting, committed, run_outcome, run_answer}
 
 -- the replies to requests, and the state behind them
 abbrev pub said_to : State → List Request → List (List ℕ)

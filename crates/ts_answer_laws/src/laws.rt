@@ -1,5 +1,5 @@
 ghost use Rattle.ts_replies.specs.Acknowledged.{AreApart};
-ghost use Rattle.ts_answer.specs.State.{run_answer};
+ghost use Rattle.ts_answer.specs.Answer.{run_answer};
 ghost use Rattle.ts_answer_laws.specs.Laws.{RefusalsChangeNothing, ReadingsChangeNothing, OthersStay};
 ghost use Rattle.ts_answer_laws.specs.Laws.{MadeCalendarsAreValid, UsedPatternsStay, CommandsFitOneRecord};
 ghost use Rattle.ts_answer_laws.specs.Laws.{LinesArePrintedSo};

@@ -6,8 +6,7 @@ use Rattle.ts_text.specs.Phrase.{Phrase, a_sign, closed}
 use Rattle.ts_text.proofs.CallerLemmas.{IsSign, Yields, chain, given, Any, sign_yields, closed_yields}
 use Rattle.ts_tokens.specs.Tokens.{front}
 use Rattle.ts_tokens.proofs.CallerLemmas.{front_laws, close_sign, comma_sign}
-use Rattle.ts_arguments.specs.Arguments.{a_literal, a_column, a_name, a_key, a_stamp, a_text, a_joined, a_whole, a_stamp_column, a_set}
-use Rattle.ts_arguments.specs.Calls.{before, two, name_before, key_before, text_before, stamp_before, whole_before, two_names, three_names, joined_names, name_and_text, name_and_whole, two_names_and_whole, key_and_name, key_and_whole, key_and_stamp, two_stamps, name_range, key_range, two_keys_range, name_key_range, text_key_range, text_name_range, text_name_key_range, whole_range, key_whole_range, text_key_whole_range, stamp_and_name, name_stamp_and_name, key_name_stamp_and_name, stamp_and_whole, name_stamp_and_whole, key_stamp_and_whole, stamp_and_values, key_stamp_and_values, some_columns, stamp_and_columns, name_and_columns, set_before, set_range, set_stamp_and_values, stamp_name_and_whole, name_stamp_name_and_whole, set_name_stamp_name_and_whole}
+use Rattle.ts_arguments.specs.Arguments.{a_literal, a_column, a_name, a_key, a_stamp, a_text, a_joined, a_whole, a_stamp_column, a_set, before, two, name_before, key_before, text_before, stamp_before, whole_before, two_names, three_names, joined_names, name_and_text, name_and_whole, two_names_and_whole, key_and_name, key_and_whole, key_and_stamp, two_stamps, name_range, key_range, two_keys_range, name_key_range, text_key_range, text_name_range, text_name_key_range, whole_range, key_whole_range, text_key_whole_range, stamp_and_name, name_stamp_and_name, key_name_stamp_and_name, stamp_and_whole, name_stamp_and_whole, key_stamp_and_whole, stamp_and_values, key_stamp_and_values, some_columns, stamp_and_columns, name_and_columns, set_before, set_range, set_stamp_and_values, stamp_name_and_whole, name_stamp_name_and_whole, set_name_stamp_name_and_whole}
 use Rattle.ts_arguments.proofs.FormLemmas.{IsName, IsKey, IsWithin, HasName, name_yields, key_yields, stamp_yields, literal_yields, text_yields, joined_yields, whole_yields, column_yields, stamp_column_yields, IsSet, set_yields}
 
 -- a phrase, and a sign behind it

@@ -3,20 +3,16 @@ use Rattle.std.proofs.Common.{◌≡◌, ℕ, ◌==◌, ◌&&◌, true, IsTrue, 
 use Rattle.std.proofs.lemmas.Bool.{cases_Bool}
 use Rattle.std.proofs.lemmas.Bool.Decides.{nat_tests}
 use Rattle.ts_base.specs.Name.{is_name, is_key, name_if_any, key_if_any}
-use Rattle.ts_base.specs.StampText.{read_stamp, moment_in}
-use Rattle.ts_base.specs.Moment.{units_of as moment_units}
+use Rattle.ts_base.specs.Moment.{read_stamp, moment_in, units_of as moment_units}
 use Rattle.ts_row.specs.declared.kind.Column.{Column}
 use Rattle.ts_row.specs.declared.value.Literal.TheVariants as literals
 use Rattle.ts_text.specs.Phrase.{word_in, a_sign, behind, name_as}
 use Rattle.ts_text.specs.declared.token.TokenKind.{TokenKind}
 use Rattle.ts_text.specs.declared.token.TokenKind.TheVariants.{Word, Number, Text, Sign}
 use Rattle.ts_text.proofs.CallerLemmas.{Yields, Shrinks, shrinks_of, chain, given, Any, of_token, sign_yields, behind_yields}
-use Rattle.ts_tokens.specs.Tokens.{front, number_length, magnitude_length, fraction_length, closing}
-use Rattle.ts_tokens.specs.Text.{undoubled, said}
-use Rattle.ts_tokens.specs.Number.{units_of, scale_of}
-use Rattle.ts_arguments.specs.Arguments.{a_literal, literal_in, a_column, a_name, a_key, key_in, a_set, set_in, set_if_any, a_stamp, stamp_in, a_text, text_in, a_joined, joined_in, a_type, type_in, kind_behind, a_small, small_in, a_word, a_whole, whole_in, within, a_stamp_column}
-use Rattle.ts_rolling.specs.Keys.{is_set}
-use Rattle.ts_arguments.specs.Words.{joined_of, type_of}
+use Rattle.ts_tokens.specs.Tokens.{front, number_length, magnitude_length, fraction_length, closing, undoubled, said, units_of, scale_of}
+use Rattle.ts_arguments.specs.Arguments.{a_literal, literal_in, a_column, a_name, a_key, key_in, a_set, set_in, set_if_any, a_stamp, stamp_in, a_text, text_in, a_joined, joined_in, a_type, type_in, kind_behind, a_small, small_in, a_word, a_whole, whole_in, within, a_stamp_column, joined_of, type_of}
+use Rattle.ts_rolling.specs.Sets.{is_set}
 use Rattle.ts_arguments.specs.declared.word.Joined.TheVariants.{Patterns}
 use Rattle.ts_arguments.specs.declared.word.TypeName.{TypeName}
 use Rattle.ts_arguments.specs.declared.word.TypeName.TheVariants.{SmallInt, Integer, BigInt, Decimal, VarChar}

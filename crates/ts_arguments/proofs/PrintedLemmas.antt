@@ -12,7 +12,7 @@ use Rattle.std.specs.List.{list_all, flat_map, position_or_len}
 use Rattle.std.specs.Char.{is_ascii_digit}
 use Rattle.std.specs.Fmt.{decimal}
 use Rattle.ts_base.specs.Name.{is_blank, begins_word, continues_word, is_text_byte, is_text}
-use Rattle.ts_base.specs.StampText.{number_of}
+use Rattle.ts_base.specs.Moment.{number_of}
 use Rattle.ts_row.specs.declared.kind.ColumnKind.{ColumnKind}
 use Rattle.ts_row.specs.declared.kind.ColumnKind.TheVariants.{SmallInt, Integer, BigInt, Decimal, VarChar}
 use Rattle.ts_row.specs.declared.kind.Column.{Column}
@@ -20,16 +20,9 @@ use Rattle.ts_row.specs.declared.value.Value.{Value}
 use Rattle.ts_row.specs.declared.value.Value.TheVariants as values
 use Rattle.ts_row.specs.declared.value.Literal.{Literal}
 use Rattle.ts_row.specs.declared.value.Literal.TheVariants as literals
-use Rattle.ts_row.specs.RowType.{is_kind, scale_of}
-use Rattle.ts_row.specs.Row.{Values, holds, holds_size, hold}
-use Rattle.ts_row.specs.Printed.{last_digits, size_text, number_text, quoted, value_text, values_text, literal_of, value_literals}
-use Rattle.ts_tokens.specs.Tokens.{fraction_length, magnitude_length, signed_length, number_length, closing, later, or_before, of_kind, front}
-use Rattle.ts_text.specs.Plain.{digits_in_front}
-use Rattle.ts_text.specs.Blanks.{unblanked}
-use Rattle.ts_tokens.specs.Number.{units_of, scale_of as digits_behind}
-use Rattle.ts_text.specs.Digits.{magnitude_of}
-use Rattle.ts_tokens.specs.Text.{undoubled, said}
-use Rattle.ts_text.specs.Phrase.{taken, taken_front, token, a_sign, repeated}
+use Rattle.ts_row.specs.Row.{is_kind, scale_of, Values, holds, holds_size, hold, last_digits, size_text, number_text, quoted, value_text, values_text, literal_of, value_literals}
+use Rattle.ts_tokens.specs.Tokens.{fraction_length, magnitude_length, signed_length, number_length, closing, later, or_before, of_kind, front, units_of, scale_of as digits_behind, undoubled, said}
+use Rattle.ts_text.specs.Phrase.{digits_in_front, unblanked, magnitude_of, taken, taken_front, token, a_sign, repeated}
 use Rattle.ts_arguments.specs.Arguments.{a_literal, literal_in}
 use Rattle.ts_arguments.specs.Printed.{ends_value}
 use Rattle.ts_text.specs.declared.token.TokenKind.{TokenKind}

@@ -4,11 +4,9 @@ use Rattle.ts_text.specs.Phrase.{Phrase, ◌>>=◌, give, a_sign}
 use Rattle.ts_text.specs.declared.token.TokenKind.{TokenKind}
 use Rattle.ts_text.specs.declared.token.TokenKind.TheVariants.{Word, Number, Text, Sign}
 use Rattle.ts_text.proofs.CallerLemmas.{shrinks_of, bind-ok, pair-parts, token-found, unblanked-le}
-use Rattle.ts_tokens.specs.Tokens.{front}
-use Rattle.ts_tokens.specs.Text.{said}
+use Rattle.ts_tokens.specs.Tokens.{front, said}
 use Rattle.ts_tokens.proofs.CallerLemmas.{front_laws, comma_sign, said-le}
-use Rattle.ts_arguments.specs.Arguments.{a_text, text_in}
-use Rattle.ts_arguments.specs.Calls.{two, name_before, text_before, name_and_text}
+use Rattle.ts_arguments.specs.Arguments.{a_text, text_in, two, name_before, text_before, name_and_text}
 use Rattle.ts_arguments.proofs.FormLemmas.{IsName}
 use Rattle.ts_arguments.proofs.CallLemmas.{name_before_yields}
 

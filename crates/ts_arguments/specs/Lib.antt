@@ -1,4 +1,2 @@
-pub mod Words
 pub mod Arguments
-pub mod Calls
 pub mod Printed

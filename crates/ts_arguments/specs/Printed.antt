@@ -7,9 +7,7 @@ use Rattle.ts_row.specs.declared.kind.Column.{Column}
 use Rattle.ts_row.specs.declared.kind.ColumnKind.{ColumnKind}
 use Rattle.ts_row.specs.declared.value.Literal.{Literal}
 use Rattle.ts_row.specs.declared.value.Value.{Value}
-use Rattle.ts_row.specs.RowType.{is_kind, scale_of}
-use Rattle.ts_row.specs.Row.{Row, holds, fits, marked, value_if_any, row_of}
-use Rattle.ts_row.specs.Printed.{value_text, row_text}
+use Rattle.ts_row.specs.Row.{is_kind, scale_of, Row, holds, fits, marked, value_if_any, row_of, value_text, row_text}
 use Rattle.ts_arguments.specs.Arguments.{a_literal}
 
 -- a blank, a comma or a closing bracket comes first

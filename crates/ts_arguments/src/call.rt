@@ -2,14 +2,13 @@
 ghost use Rattle.std.specs.Prelude.{◌≡◌, Ok, IfOk, IfErr};
 ghost use Rattle.ts_text.specs.Misfit.{Refuses, RefusesExactly};
 ghost use Rattle.ts_text.specs.Phrase.{repeated, onto};
-ghost use Rattle.ts_arguments.specs.Arguments.{a_literal};
-ghost use Rattle.ts_arguments.specs.Calls.{name_before, key_before, text_before, stamp_before, whole_before, two_names};
-ghost use Rattle.ts_arguments.specs.Calls.{three_names, joined_names, name_and_text, name_and_whole};
-ghost use Rattle.ts_arguments.specs.Calls.{two_names_and_whole, key_and_name, key_and_whole, key_and_stamp};
-ghost use Rattle.ts_arguments.specs.Calls.{stamp_and_name, name_stamp_and_name, key_name_stamp_and_name};
-ghost use Rattle.ts_arguments.specs.Calls.{stamp_and_whole, name_stamp_and_whole, key_stamp_and_whole};
-ghost use Rattle.ts_arguments.specs.Calls.{stamp_and_values, key_stamp_and_values, some_columns, stamp_and_columns};
-ghost use Rattle.ts_arguments.specs.Calls.{name_and_columns};
+ghost use Rattle.ts_arguments.specs.Arguments.{a_literal, name_before, key_before, text_before, stamp_before};
+ghost use Rattle.ts_arguments.specs.Arguments.{whole_before, two_names, three_names, joined_names, name_and_text};
+ghost use Rattle.ts_arguments.specs.Arguments.{name_and_whole, two_names_and_whole, key_and_name, key_and_whole};
+ghost use Rattle.ts_arguments.specs.Arguments.{key_and_stamp, stamp_and_name, name_stamp_and_name};
+ghost use Rattle.ts_arguments.specs.Arguments.{key_name_stamp_and_name, stamp_and_whole, name_stamp_and_whole};
+ghost use Rattle.ts_arguments.specs.Arguments.{key_stamp_and_whole, stamp_and_values, key_stamp_and_values};
+ghost use Rattle.ts_arguments.specs.Arguments.{some_columns, stamp_and_columns, name_and_columns};
 
 use crate::column::{read_column, read_columns, read_stamp_column};
 use crate::list::{Columns, Literals};
@@ -22,7 +21,7 @@ use ts_base::{Bytes, Key, Name, Stamp};
 use ts_text::{Misfit, behind_sign, read_sign};
 
 /// A name, and this sign behind it.
-#[tactic(auto, unfolding(crate::specs::Calls::name_before))]
+#[tactic(auto, unfolding(crate::specs::Arguments::name_before))]
 pub fn read_name_before(alloc: Global, bytes: &[u8], sign: u8) -> Result<(Name, &[u8]), Misfit>
     ensures ok { IfOk result (λ found. name_before sign bytes.now ≡ Ok (found.0, found.1.now)) }
     ensures cause { IfErr result (λ misfit. Refuses misfit (name_before sign bytes.now)) }
@@ -33,7 +32,7 @@ pub fn read_name_before(alloc: Global, bytes: &[u8], sign: u8) -> Result<(Name, 
 }
 
 /// A key, and this sign behind it.
-#[tactic(auto, unfolding(crate::specs::Calls::key_before))]
+#[tactic(auto, unfolding(crate::specs::Arguments::key_before))]
 pub fn read_key_before(alloc: Global, bytes: &[u8], sign: u8) -> Result<(Key, &[u8]), Misfit>
     ensures ok { IfOk result (λ found. key_before sign bytes.now ≡ Ok (found.0, found.1.now)) }
     ensures cause { IfErr result (λ misfit. Refuses misfit (key_before sign bytes.now)) }
@@ -44,7 +43,7 @@ pub fn read_key_before(alloc: Global, bytes: &[u8], sign: u8) -> Result<(Key, &[
 }
 
 /// A text, and this sign behind it.
-#[tactic(auto, unfolding(crate::specs::Calls::text_before))]
+#[tactic(auto, unfolding(crate::specs::Arguments::text_before))]
 pub(crate) fn read_text_before(
     alloc: Global,
     bytes: &[u8],
@@ -59,7 +58,7 @@ pub(crate) fn read_text_before(
 }
 
 /// A stamp, and this sign behind it.
-#[tactic(auto, unfolding(crate::specs::Calls::stamp_before))]
+#[tactic(auto, unfolding(crate::specs::Arguments::stamp_before))]
 pub(crate) fn read_stamp_before(
     alloc: Global,
     bytes: &[u8],
@@ -75,7 +74,7 @@ pub(crate) fn read_stamp_before(
 }
 
 /// A whole number between the two, and this sign behind it.
-#[tactic(auto, unfolding(crate::specs::Calls::whole_before))]
+#[tactic(auto, unfolding(crate::specs::Arguments::whole_before))]
 pub(crate) fn read_whole_before(
     bytes: &[u8],
     sign: u8,
@@ -91,7 +90,7 @@ pub(crate) fn read_whole_before(
 }
 
 /// Two names.
-#[tactic(auto, unfolding(crate::specs::Calls::two_names))]
+#[tactic(auto, unfolding(crate::specs::Arguments::two_names))]
 pub fn read_two_names(alloc: Global, bytes: &[u8]) -> Result<((Name, Name), &[u8]), Misfit>
     ensures ok { IfOk result (λ found. two_names bytes.now ≡ Ok (found.0, found.1.now)) }
     ensures cause { IfErr result (λ misfit. Refuses misfit (two_names bytes.now)) }
@@ -102,7 +101,7 @@ pub fn read_two_names(alloc: Global, bytes: &[u8]) -> Result<((Name, Name), &[u8
 }
 
 // Three names.
-#[tactic(auto, unfolding(crate::specs::Calls::three_names))]
+#[tactic(auto, unfolding(crate::specs::Arguments::three_names))]
 fn read_three_names(alloc: Global, bytes: &[u8]) -> Result<((Name, (Name, Name)), &[u8]), Misfit>
     ensures ok { IfOk result (λ found. three_names bytes.now ≡ Ok (found.0, found.1.now)) }
     ensures cause { IfErr result (λ misfit. Refuses misfit (three_names bytes.now)) }
@@ -113,7 +112,7 @@ fn read_three_names(alloc: Global, bytes: &[u8]) -> Result<((Name, (Name, Name))
 }
 
 /// What is joined, and three names.
-#[tactic(auto, unfolding(crate::specs::Calls::joined_names))]
+#[tactic(auto, unfolding(crate::specs::Arguments::joined_names))]
 pub fn read_joined_names(
     alloc: Global,
     bytes: &[u8],
@@ -127,7 +126,7 @@ pub fn read_joined_names(
 }
 
 /// A name and a text.
-#[tactic(auto, unfolding(crate::specs::Calls::name_and_text))]
+#[tactic(auto, unfolding(crate::specs::Arguments::name_and_text))]
 pub fn read_name_and_text(alloc: Global, bytes: &[u8]) -> Result<((Name, Bytes), &[u8]), Misfit>
     ensures ok { IfOk result (λ found. name_and_text bytes.now ≡ Ok (found.0, found.1.now)) }
     ensures cause { IfErr result (λ misfit. Refuses misfit (name_and_text bytes.now)) }
@@ -138,7 +137,7 @@ pub fn read_name_and_text(alloc: Global, bytes: &[u8]) -> Result<((Name, Bytes),
 }
 
 // A name and a whole number between the two.
-#[tactic(auto, unfolding(crate::specs::Calls::name_and_whole))]
+#[tactic(auto, unfolding(crate::specs::Arguments::name_and_whole))]
 pub(crate) fn read_name_and_whole(
     alloc: Global,
     bytes: &[u8],
@@ -154,7 +153,7 @@ pub(crate) fn read_name_and_whole(
 }
 
 /// Two names and a whole number between the two.
-#[tactic(auto, unfolding(crate::specs::Calls::two_names_and_whole))]
+#[tactic(auto, unfolding(crate::specs::Arguments::two_names_and_whole))]
 pub fn read_two_names_and_whole(
     alloc: Global,
     bytes: &[u8],
@@ -170,7 +169,7 @@ pub fn read_two_names_and_whole(
 }
 
 /// A key and a name.
-#[tactic(auto, unfolding(crate::specs::Calls::key_and_name))]
+#[tactic(auto, unfolding(crate::specs::Arguments::key_and_name))]
 pub fn read_key_and_name(alloc: Global, bytes: &[u8]) -> Result<((Key, Name), &[u8]), Misfit>
     ensures ok { IfOk result (λ found. key_and_name bytes.now ≡ Ok (found.0, found.1.now)) }
     ensures cause { IfErr result (λ misfit. Refuses misfit (key_and_name bytes.now)) }
@@ -181,7 +180,7 @@ pub fn read_key_and_name(alloc: Global, bytes: &[u8]) -> Result<((Key, Name), &[
 }
 
 /// A key and a whole number between the two.
-#[tactic(auto, unfolding(crate::specs::Calls::key_and_whole))]
+#[tactic(auto, unfolding(crate::specs::Arguments::key_and_whole))]
 pub fn read_key_and_whole(
     alloc: Global,
     bytes: &[u8],
@@ -197,7 +196,7 @@ pub fn read_key_and_whole(
 }
 
 /// A key and a stamp.
-#[tactic(auto, unfolding(crate::specs::Calls::key_and_stamp))]
+#[tactic(auto, unfolding(crate::specs::Arguments::key_and_stamp))]
 pub fn read_key_and_stamp(alloc: Global, bytes: &[u8]) -> Result<((Key, Stamp), &[u8]), Misfit>
     ensures ok { IfOk result (λ found. key_and_stamp bytes.now ≡ Ok (found.0, found.1.now)) }
     ensures cause { IfErr result (λ misfit. Refuses misfit (key_and_stamp bytes.now)) }
@@ -210,7 +209,7 @@ pub fn read_key_and_stamp(alloc: Global, bytes: &[u8]) -> Result<((Key, Stamp), 
 }
 
 // A stamp and a name.
-#[tactic(auto, unfolding(crate::specs::Calls::stamp_and_name))]
+#[tactic(auto, unfolding(crate::specs::Arguments::stamp_and_name))]
 fn read_stamp_and_name(alloc: Global, bytes: &[u8]) -> Result<((Stamp, Name), &[u8]), Misfit>
     ensures ok { IfOk result (λ found. stamp_and_name bytes.now ≡ Ok (found.0, found.1.now)) }
     ensures cause { IfErr result (λ misfit. Refuses misfit (stamp_and_name bytes.now)) }
@@ -225,7 +224,7 @@ fn read_stamp_and_name(alloc: Global, bytes: &[u8]) -> Result<((Stamp, Name), &[
 }
 
 // A name, a stamp and a name.
-#[tactic(auto, unfolding(crate::specs::Calls::name_stamp_and_name))]
+#[tactic(auto, unfolding(crate::specs::Arguments::name_stamp_and_name))]
 fn read_name_stamp_and_name(
     alloc: Global,
     bytes: &[u8],
@@ -241,7 +240,7 @@ fn read_name_stamp_and_name(
 }
 
 /// A key, a name, a stamp and a name.
-#[tactic(auto, unfolding(crate::specs::Calls::key_name_stamp_and_name))]
+#[tactic(auto, unfolding(crate::specs::Arguments::key_name_stamp_and_name))]
 pub fn read_key_name_stamp_and_name(
     alloc: Global,
     bytes: &[u8],
@@ -257,7 +256,7 @@ pub fn read_key_name_stamp_and_name(
 }
 
 // A stamp and a whole number between the two.
-#[tactic(auto, unfolding(crate::specs::Calls::stamp_and_whole))]
+#[tactic(auto, unfolding(crate::specs::Arguments::stamp_and_whole))]
 fn read_stamp_and_whole(
     alloc: Global,
     bytes: &[u8],
@@ -277,7 +276,7 @@ fn read_stamp_and_whole(
 }
 
 /// A name, a stamp and a whole number between the two.
-#[tactic(auto, unfolding(crate::specs::Calls::name_stamp_and_whole))]
+#[tactic(auto, unfolding(crate::specs::Arguments::name_stamp_and_whole))]
 pub fn read_name_stamp_and_whole(
     alloc: Global,
     bytes: &[u8],
@@ -295,7 +294,7 @@ pub fn read_name_stamp_and_whole(
 }
 
 /// A key, a stamp and a whole number between the two.
-#[tactic(auto, unfolding(crate::specs::Calls::key_stamp_and_whole))]
+#[tactic(auto, unfolding(crate::specs::Arguments::key_stamp_and_whole))]
 pub fn read_key_stamp_and_whole(
     alloc: Global,
     bytes: &[u8],
@@ -313,7 +312,7 @@ pub fn read_key_stamp_and_whole(
 }
 
 // A stamp and any number of values.
-#[tactic(auto, unfolding(crate::specs::Calls::stamp_and_values))]
+#[tactic(auto, unfolding(crate::specs::Arguments::stamp_and_values))]
 pub(crate) fn read_stamp_and_values(
     alloc: Global,
     bytes: &[u8],
@@ -331,7 +330,7 @@ pub(crate) fn read_stamp_and_values(
 }
 
 /// A key, a stamp and any number of values.
-#[tactic(auto, unfolding(crate::specs::Calls::key_stamp_and_values))]
+#[tactic(auto, unfolding(crate::specs::Arguments::key_stamp_and_values))]
 pub fn read_key_stamp_and_values(
     alloc: Global,
     bytes: &[u8],
@@ -347,7 +346,7 @@ pub fn read_key_stamp_and_values(
 }
 
 // One value column at least.
-#[tactic(auto, unfolding(crate::specs::Calls::some_columns))]
+#[tactic(auto, unfolding(crate::specs::Arguments::some_columns))]
 fn read_some_columns(alloc: Global, bytes: &[u8]) -> Result<(Columns, &[u8]), Misfit>
     ensures ok { IfOk result (λ found. some_columns bytes.now ≡ Ok (found.0, found.1.now)) }
     ensures cause { IfErr result (λ misfit. Refuses misfit (some_columns bytes.now)) }
@@ -361,7 +360,7 @@ fn read_some_columns(alloc: Global, bytes: &[u8]) -> Result<(Columns, &[u8]), Mi
 }
 
 // The stamp's column and one value column at least.
-#[tactic(auto, unfolding(crate::specs::Calls::stamp_and_columns))]
+#[tactic(auto, unfolding(crate::specs::Arguments::stamp_and_columns))]
 fn read_stamp_and_columns(alloc: Global, bytes: &[u8]) -> Result<((Name, Columns), &[u8]), Misfit>
     ensures ok { IfOk result (λ found. stamp_and_columns bytes.now ≡ Ok (found.0, found.1.now)) }
     ensures cause { IfErr result (λ misfit. Refuses misfit (stamp_and_columns bytes.now)) }
@@ -372,7 +371,7 @@ fn read_stamp_and_columns(alloc: Global, bytes: &[u8]) -> Result<((Name, Columns
 }
 
 /// A name, the stamp's column and one value column at least.
-#[tactic(auto, unfolding(crate::specs::Calls::name_and_columns))]
+#[tactic(auto, unfolding(crate::specs::Arguments::name_and_columns))]
 pub fn read_name_and_columns(
     alloc: Global,
     bytes: &[u8],

@@ -1,10 +1,9 @@
-//! The arguments of statements: what stands between the brackets of a call. Each shape of arguments has a reader
-//! (`specs/Calls`): it gives what they say and the bytes behind them exactly by the grammar, else the first place that
-//! can't stand there. Shapes are made of names, keys, stamps, texts, numbers, values and columns (`specs/Arguments`,
-//! over the tokens of ts_tokens). What they say has its form (`proofs/CallerLemmas`), and a value that ts_row prints is
-//! read again as the same value (`specs/Printed`). Stands on ts_tokens, ts_row, ts_text and ts_base, and on ts_rolling
-//! for the form of a set's key; knows no routine
-//! and no command. Read `specs/Arguments.antt` and `specs/Calls.antt`, then `phrase.rt` and `call.rt`.
+//! The arguments of statements: what stands between the brackets of a call. Each shape of arguments has a reader that
+//! gives what they say and the bytes behind them exactly by the grammar, else the first place that can't stand there.
+//! Shapes are made of names, keys, stamps, texts, numbers, values and columns (`specs/Arguments`, over the tokens of
+//! ts_tokens). What they say has its form (`proofs/CallerLemmas`), and a value that ts_row prints is read again as the
+//! same value (`specs/Printed`). Stands on ts_tokens, ts_row, ts_text and ts_base, and on ts_rolling for the form of a
+//! set's key; knows no routine and no command. Read `specs/Arguments.antt`, then `phrase.rt` and `call.rt`.
 #![tactic(auto)]
 
 mod call;

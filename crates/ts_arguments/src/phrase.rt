@@ -2,8 +2,8 @@
 ghost use Rattle.std.specs.Prelude.{◌≡◌, ◌<◌, ◌≤◌, [], Ok, Err, IfOk, IfErr, IfSome, IfNone, length};
 ghost use Rattle.ts_arguments.specs.Arguments.{a_name, a_key, a_stamp, a_text, a_literal, a_whole, a_small, a_word};
 ghost use Rattle.ts_arguments.specs.Arguments.{a_type, a_joined, small_in, whole_in};
-ghost use Rattle.ts_tokens.specs.Number.{units_of, scale_of};
-ghost use Rattle.ts_text.specs.Digits.{digit_count};
+ghost use Rattle.ts_tokens.specs.Tokens.{units_of, scale_of};
+ghost use Rattle.ts_text.specs.Phrase.{digit_count};
 ghost use Rattle.ts_text.specs.Misfit.{Refuses, RefusesExactly};
 
 use crate::word::{Joined, TypeName, are_same, joined_of, type_of};

@@ -1,9 +1,9 @@
 // Calls that end with a range: two stamps behind what else stands there.
 ghost use Rattle.std.specs.Prelude.{◌≡◌, Ok, IfOk, IfErr};
 ghost use Rattle.ts_text.specs.Misfit.{Refuses};
-ghost use Rattle.ts_arguments.specs.Calls.{two_stamps, name_range, key_range, two_keys_range, name_key_range};
-ghost use Rattle.ts_arguments.specs.Calls.{text_key_range, text_name_range, text_name_key_range, whole_range};
-ghost use Rattle.ts_arguments.specs.Calls.{key_whole_range, text_key_whole_range};
+ghost use Rattle.ts_arguments.specs.Arguments.{two_stamps, name_range, key_range, two_keys_range, name_key_range};
+ghost use Rattle.ts_arguments.specs.Arguments.{text_key_range, text_name_range, text_name_key_range, whole_range};
+ghost use Rattle.ts_arguments.specs.Arguments.{key_whole_range, text_key_whole_range};
 
 use crate::call::{
     read_key_before, read_name_before, read_stamp_before, read_text_before, read_whole_before,
@@ -13,7 +13,7 @@ use ts_base::{Bytes, Key, Name, Stamp};
 use ts_text::Misfit;
 
 // Two stamps.
-#[tactic(auto, unfolding(crate::specs::Calls::two_stamps))]
+#[tactic(auto, unfolding(crate::specs::Arguments::two_stamps))]
 pub(crate) fn read_two_stamps(
     alloc: Global,
     bytes: &[u8],
@@ -31,7 +31,7 @@ pub(crate) fn read_two_stamps(
 }
 
 /// A name and two stamps.
-#[tactic(auto, unfolding(crate::specs::Calls::name_range))]
+#[tactic(auto, unfolding(crate::specs::Arguments::name_range))]
 pub fn read_name_range(
     alloc: Global,
     bytes: &[u8],
@@ -47,7 +47,7 @@ pub fn read_name_range(
 }
 
 /// A key and two stamps.
-#[tactic(auto, unfolding(crate::specs::Calls::key_range))]
+#[tactic(auto, unfolding(crate::specs::Arguments::key_range))]
 pub fn read_key_range(alloc: Global, bytes: &[u8]) -> Result<((Key, (Stamp, Stamp)), &[u8]), Misfit>
     ensures ok { IfOk result (λ found. key_range bytes.now ≡ Ok (found.0, found.1.now)) }
     ensures cause { IfErr result (λ misfit. Refuses misfit (key_range bytes.now)) }
@@ -60,7 +60,7 @@ pub fn read_key_range(alloc: Global, bytes: &[u8]) -> Result<((Key, (Stamp, Stam
 }
 
 /// Two keys and two stamps.
-#[tactic(auto, unfolding(crate::specs::Calls::two_keys_range))]
+#[tactic(auto, unfolding(crate::specs::Arguments::two_keys_range))]
 pub fn read_two_keys_range(
     alloc: Global,
     bytes: &[u8],
@@ -76,7 +76,7 @@ pub fn read_two_keys_range(
 }
 
 // A name, a key and two stamps.
-#[tactic(auto, unfolding(crate::specs::Calls::name_key_range))]
+#[tactic(auto, unfolding(crate::specs::Arguments::name_key_range))]
 fn read_name_key_range(
     alloc: Global,
     bytes: &[u8],
@@ -92,7 +92,7 @@ fn read_name_key_range(
 }
 
 /// A text, a key and two stamps.
-#[tactic(auto, unfolding(crate::specs::Calls::text_key_range))]
+#[tactic(auto, unfolding(crate::specs::Arguments::text_key_range))]
 pub fn read_text_key_range(
     alloc: Global,
     bytes: &[u8],
@@ -108,7 +108,7 @@ pub fn read_text_key_range(
 }
 
 /// A text, a name and two stamps.
-#[tactic(auto, unfolding(crate::specs::Calls::text_name_range))]
+#[tactic(auto, unfolding(crate::specs::Arguments::text_name_range))]
 pub fn read_text_name_range(
     alloc: Global,
     bytes: &[u8],
@@ -124,7 +124,7 @@ pub fn read_text_name_range(
 }
 
 /// A text, a name, a key and two stamps.
-#[tactic(auto, unfolding(crate::specs::Calls::text_name_key_range))]
+#[tactic(auto, unfolding(crate::specs::Arguments::text_name_key_range))]
 pub fn read_text_name_key_range(
     alloc: Global,
     bytes: &[u8],
@@ -140,7 +140,7 @@ pub fn read_text_name_key_range(
 }
 
 // A whole number between the two and two stamps.
-#[tactic(auto, unfolding(crate::specs::Calls::whole_range))]
+#[tactic(auto, unfolding(crate::specs::Arguments::whole_range))]
 fn read_whole_range(
     alloc: Global,
     bytes: &[u8],
@@ -158,7 +158,7 @@ fn read_whole_range(
 }
 
 // A key, a whole number between the two and two stamps.
-#[tactic(auto, unfolding(crate::specs::Calls::key_whole_range))]
+#[tactic(auto, unfolding(crate::specs::Arguments::key_whole_range))]
 fn read_key_whole_range(
     alloc: Global,
     bytes: &[u8],
@@ -176,7 +176,7 @@ fn read_key_whole_range(
 }
 
 /// A text, a key, a whole number between the two and two stamps.
-#[tactic(auto, unfolding(crate::specs::Calls::text_key_whole_range))]
+#[tactic(auto, unfolding(crate::specs::Arguments::text_key_whole_range))]
 pub fn read_text_key_whole_range(
     alloc: Global,
     bytes: &[u8],

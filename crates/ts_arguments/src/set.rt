@@ -2,9 +2,9 @@
 ghost use Rattle.std.specs.Prelude.{◌≡◌, Ok, IfOk, IfErr};
 ghost use Rattle.ts_text.specs.declared.token.TokenKind.TheVariants.{Text};
 ghost use Rattle.ts_text.specs.Misfit.{Refuses};
-ghost use Rattle.ts_arguments.specs.Arguments.{a_set, set_in, set_if_any};
-ghost use Rattle.ts_arguments.specs.Calls.{set_before, set_range, set_stamp_and_values, stamp_name_and_whole};
-ghost use Rattle.ts_arguments.specs.Calls.{name_stamp_name_and_whole, set_name_stamp_name_and_whole};
+ghost use Rattle.ts_arguments.specs.Arguments.{a_set, set_in, set_if_any, set_before, set_range, set_stamp_and_values};
+ghost use Rattle.ts_arguments.specs.Arguments.{stamp_name_and_whole, name_stamp_name_and_whole};
+ghost use Rattle.ts_arguments.specs.Arguments.{set_name_stamp_name_and_whole};
 
 use crate::call::{
     read_name_and_whole, read_name_before, read_stamp_and_values, read_stamp_before,
@@ -54,7 +54,7 @@ fn set_if_any(key: Key) -> Option<Key>
 }
 
 /// A set, and this sign behind it.
-#[tactic(auto, unfolding(crate::specs::Calls::set_before))]
+#[tactic(auto, unfolding(crate::specs::Arguments::set_before))]
 pub fn read_set_before(alloc: Global, bytes: &[u8], sign: u8) -> Result<(Key, &[u8]), Misfit>
     ensures ok { IfOk result (λ found. set_before sign bytes.now ≡ Ok (found.0, found.1.now)) }
     ensures cause { IfErr result (λ misfit. Refuses misfit (set_before sign bytes.now)) }
@@ -65,7 +65,7 @@ pub fn read_set_before(alloc: Global, bytes: &[u8], sign: u8) -> Result<(Key, &[
 }
 
 /// A set and two stamps.
-#[tactic(auto, unfolding(crate::specs::Calls::set_range))]
+#[tactic(auto, unfolding(crate::specs::Arguments::set_range))]
 pub fn read_set_range(alloc: Global, bytes: &[u8]) -> Result<((Key, (Stamp, Stamp)), &[u8]), Misfit>
     ensures ok { IfOk result (λ found. set_range bytes.now ≡ Ok (found.0, found.1.now)) }
     ensures cause { IfErr result (λ misfit. Refuses misfit (set_range bytes.now)) }
@@ -78,7 +78,7 @@ pub fn read_set_range(alloc: Global, bytes: &[u8]) -> Result<((Key, (Stamp, Stam
 }
 
 /// A set, a stamp and any number of values.
-#[tactic(auto, unfolding(crate::specs::Calls::set_stamp_and_values))]
+#[tactic(auto, unfolding(crate::specs::Arguments::set_stamp_and_values))]
 pub fn read_set_stamp_and_values(
     alloc: Global,
     bytes: &[u8],
@@ -94,7 +94,7 @@ pub fn read_set_stamp_and_values(
 }
 
 // A stamp, a name and a whole number between the two.
-#[tactic(auto, unfolding(crate::specs::Calls::stamp_name_and_whole))]
+#[tactic(auto, unfolding(crate::specs::Arguments::stamp_name_and_whole))]
 fn read_stamp_name_and_whole(
     alloc: Global,
     bytes: &[u8],
@@ -114,7 +114,7 @@ fn read_stamp_name_and_whole(
 }
 
 // A name, a stamp, a name and a whole number between the two.
-#[tactic(auto, unfolding(crate::specs::Calls::name_stamp_name_and_whole))]
+#[tactic(auto, unfolding(crate::specs::Arguments::name_stamp_name_and_whole))]
 fn read_name_stamp_name_and_whole(
     alloc: Global,
     bytes: &[u8],
@@ -132,7 +132,7 @@ fn read_name_stamp_name_and_whole(
 }
 
 /// A set, a name, a stamp, a name and a whole number between the two.
-#[tactic(auto, unfolding(crate::specs::Calls::set_name_stamp_name_and_whole))]
+#[tactic(auto, unfolding(crate::specs::Arguments::set_name_stamp_name_and_whole))]
 pub fn read_set_name_stamp_name_and_whole(
     alloc: Global,
     bytes: &[u8],

@@ -1,7 +1,7 @@
 // The words of statements: what is joined, and the types of value columns, by their names.
 ghost use Rattle.std.specs.Prelude.{◌≡◌};
 ghost use Rattle.std.specs.Str.{bytes_eq};
-ghost use Rattle.ts_arguments.specs.Words.{joined_spelling, joined_of, type_spelling, type_of};
+ghost use Rattle.ts_arguments.specs.Arguments.{joined_spelling, joined_of, type_spelling, type_of};
 
 /// Whether the two are the same bytes.
 pub fn are_same(first: &[u8], second: &[u8]) -> bool
@@ -31,7 +31,7 @@ impl Joined {
 }
 
 /// What is joined where this word stands, if something is.
-#[tactic(auto, unfolding(crate::specs::Words::joined_of))]
+#[tactic(auto, unfolding(crate::specs::Arguments::joined_of))]
 pub(crate) fn joined_of(word: &[u8]) -> Option<Joined>
     ensures { result ≡ joined_of word.now }
 {
@@ -74,7 +74,7 @@ impl TypeName {
 }
 
 /// The type of this name, if there is one.
-#[tactic(auto, unfolding(crate::specs::Words::type_of))]
+#[tactic(auto, unfolding(crate::specs::Arguments::type_of))]
 pub(crate) fn type_of(word: &[u8]) -> Option<TypeName>
     ensures { result ≡ type_of word.now }
 {

@@ -5,8 +5,7 @@ use Rattle.std.proofs.lemmas.Bool.{cases_lt}
 use Rattle.jiff_core.specs.Calendar.{days_in_year, days_in_month, days_of_months, day_of_year, day_count, days_from_civil, IsCivilDate}
 use Rattle.jiff_core.proofs.SignedLemmas.{signed_arith}
 use Rattle.jiff_core.proofs.CalendarLemmas.{days_of_months_more, days_of_months-zero, days_of_months_all, day_count-day_of_year, day_count-next_year, day_count-end, days_from_civil-day_count}
-use Rattle.ts_base.specs.Moment.{Civil, civil_in_year, civil_in_years, civil_of, IsStamp, day_of, clock_of}
-use Rattle.ts_base.specs.StampText.{read_stamp, stamp_text}
+use Rattle.ts_base.specs.Moment.{Civil, civil_in_year, civil_in_years, civil_of, IsStamp, day_of, clock_of, read_stamp, stamp_text}
 use Rattle.ts_base.proofs.CivilLemmas.{lt_yes, lt_no, day_count-first_year}
 use Rattle.ts_base.proofs.RoundTrip.{read_stamp-text, units_back}
 

@@ -9,8 +9,7 @@ use Rattle.jiff_core.proofs.SignedLemmas.{signed_arith}
 use Rattle.jiff_core.proofs.CalendarLemmas.{days_in_month_bounds}
 use Rattle.jiff_span.specs.Months.{month_number, add_months, shifted_year, shifted_month, shifted_day, IsShiftable}
 use Rattle.jiff_span.proofs.MonthLemmas.{shift_parts, days_from_civil-month}
-use Rattle.ts_base.specs.Moment.{Civil}
-use Rattle.ts_base.specs.Months.{month_of, in_month, days_after}
+use Rattle.ts_base.specs.Moment.{Civil, month_of, in_month, days_after}
 use Rattle.ts_base.proofs.CivilLemmas.{civil, natural}
 
 int_lt_yes : (a b : ℤ) → a <ℤ b → int_lt a b ≡ true

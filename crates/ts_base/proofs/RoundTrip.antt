@@ -6,8 +6,7 @@ use Rattle.jiff_core.specs.Calendar.{IsCivilDate, days_from_civil}
 use Rattle.std.specs.Int.{int_rem_euclid}
 use Rattle.jiff_core.proofs.CalendarLemmas.{days_in_month_bounds}
 use Rattle.jiff_core.proofs.SignedLemmas.{signed_arith}
-use Rattle.ts_base.specs.Moment.{Moment, Civil, day_of, stamp_at}
-use Rattle.ts_base.specs.StampText.{has_stamp_form, number_of, moment_in, read_stamp, text_of, digit, two_digits, four_digits, five_digits}
+use Rattle.ts_base.specs.Moment.{Moment, Civil, day_of, stamp_at, has_stamp_form, number_of, moment_in, read_stamp, text_of, digit, two_digits, four_digits, five_digits}
 use Rattle.ts_base.proofs.CivilLemmas.{stamp_at-moment}
 
 digit-is : (n : ℕ) → is_ascii_digit (digit n) ≡ true

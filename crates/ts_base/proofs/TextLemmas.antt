@@ -7,7 +7,7 @@ use Rattle.std.proofs.lemmas.List.Folds.{list_all_at}
 use Rattle.std.proofs.lemmas.Bool.{cases_lt}
 use Rattle.std.specs.Char.{is_ascii_digit}
 use Rattle.std.proofs.lemmas.Bool.Decides.{nat_tests}
-use Rattle.ts_base.specs.StampText.{has_stamp_form, has_stamp_length, has_stamp_digits, has_stamp_signs, all_digits}
+use Rattle.ts_base.specs.Moment.{has_stamp_form, has_stamp_length, has_stamp_digits, has_stamp_signs, all_digits}
 
 pub record FormFacts (s : List ℕ) : Type 0 where
   pub year : IsTrue (all_digits (take 4 s))

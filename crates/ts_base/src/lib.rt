@@ -1,8 +1,7 @@
-//! The values that every layer speaks of: stamps, units, names, keys and the refusals of commands. A stamp and
-//! its text are inverse to each other (`specs/StampText`), a stamp moved by months is found by the civil calendar
-//! (`specs/Months`), a name and a key have their form (`specs/Name`), and each refusal has one number and one name
-//! (`specs/Refusal`). Stands on jiff's calendar alone; knows nothing of pages or disks. Read
-//! `specs/Moment.antt`, then `stamp.rt`.
+//! The values that every layer speaks of: stamps, units, names, keys and the refusals of commands. A stamp and its text
+//! are inverse to each other, a stamp moved by months is found by the civil calendar (`specs/Moment`), a name and a key
+//! have their form (`specs/Name`), and each refusal has one number and one name (`specs/Refusal`). Stands on jiff's
+//! calendar alone; knows nothing of pages or disks. Read `specs/Moment.antt`, then `stamp.rt`.
 #![tactic(auto)]
 
 mod bytes;

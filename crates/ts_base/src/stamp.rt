@@ -1,9 +1,8 @@
 ghost use Rattle.std.specs.Prelude.{◌≡◌, ◌+◌, ◌-◌, ◌*◌, ◌/◌, ◌%◌, ◌^◌, ◌<◌, ◌≤◌, ◌↔◌, pos, ◌+ℤ◌, ◌*ℤ◌, ◌<ℤ◌, length};
 ghost use Rattle.std.specs.Prelude.{drop, IsTrue, IsSome, IfSome, Some, negsuc, neg_ℤ};
-ghost use Rattle.ts_base.specs.Moment.{IsStamp, stamp_if_any, Moment, stamp_at, day_of, clock_of, civil_of};
-ghost use Rattle.ts_base.specs.StampText.{read_stamp, stamp_text, all_digits, number_of, has_stamp_form};
-ghost use Rattle.ts_base.specs.StampText.{has_stamp_length, has_stamp_signs, has_stamp_digits, digit, text_of};
-ghost use Rattle.ts_base.specs.Months.{day_of_month};
+ghost use Rattle.ts_base.specs.Moment.{IsStamp, stamp_if_any, Moment, stamp_at, day_of, clock_of, civil_of, read_stamp};
+ghost use Rattle.ts_base.specs.Moment.{stamp_text, all_digits, number_of, has_stamp_form, has_stamp_length};
+ghost use Rattle.ts_base.specs.Moment.{has_stamp_signs, has_stamp_digits, digit, text_of, day_of_month};
 ghost use Rattle.jiff_core.specs.Calendar.{IsBetween, IsEpochDay, IsCivilDate, days_from_civil};
 
 use crate::text::{fraction, fraction_text, has_form, number, write_parts};
@@ -107,7 +106,7 @@ impl Stamp {
     }
 
     /// The stamp that a text names, if it names one.
-    #[tactic(auto, using(crate::proofs::TextLemmas::form_facts), unfolding(crate::specs::StampText::read_stamp))]
+    #[tactic(auto, using(crate::proofs::TextLemmas::form_facts), unfolding(crate::specs::Moment::read_stamp))]
     pub fn read(text: &[u8]) -> Option<Stamp>
         ensures { result ≡ read_stamp text.now }
     {

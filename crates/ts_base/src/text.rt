@@ -1,7 +1,7 @@
 // The text of a stamp, `YYYY-MM-DD HH:MM:SS.FFFFF`: its form, its digits and its bytes.
 ghost use Rattle.std.specs.Prelude.{◌≡◌, ◌+◌, ◌-◌, ◌*◌, ◌^◌, ◌<◌, ◌≤◌, length, drop, IsTrue};
-ghost use Rattle.ts_base.specs.StampText.{all_digits, number_of, has_stamp_form, has_stamp_length, has_stamp_signs};
-ghost use Rattle.ts_base.specs.StampText.{has_stamp_digits, digit, text_of};
+ghost use Rattle.ts_base.specs.Moment.{all_digits, number_of, has_stamp_form, has_stamp_length, has_stamp_signs};
+ghost use Rattle.ts_base.specs.Moment.{has_stamp_digits, digit, text_of};
 
 // Whether a text has digits and signs in the places of a stamp.
 pub(crate) fn has_form(text: &[u8]) -> bool

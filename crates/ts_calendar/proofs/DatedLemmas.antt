@@ -7,8 +7,7 @@ use Rattle.jiff_core.specs.Calendar.{days_from_civil}
 use Rattle.jiff_core.proofs.SignedLemmas.{signed_arith}
 use Rattle.jiff_core.proofs.CalendarLemmas.{day_count-day, days_from_civil-day_count}
 use Rattle.jiff_core.proofs.MarchLemmas.{day_count-early, day_count-late}
-use Rattle.ts_base.specs.Moment.{Civil, IsStamp, stamp_if_any, civil_of, day_of, clock_of}
-use Rattle.ts_base.specs.Months.{months_after, day_of_month}
+use Rattle.ts_base.specs.Moment.{Civil, IsStamp, stamp_if_any, civil_of, day_of, clock_of, months_after, day_of_month}
 use Rattle.ts_base.proofs.CivilLemmas.{civil}
 use Rattle.ts_calendar.specs.Dated.{IsInMonth}
 use Rattle.ts_calendar.specs.Line.{month_line}

@@ -2,7 +2,7 @@
 use Rattle.std.proofs.Common.{◌≡◌, ℕ, zero, suc, ◌<◌, true, false, refl, sym, ap, ◌∙◌, arith, ℤ, pos, ◌+ℤ◌, ◌≤ℤ◌, ◌<ℤ◌, Some, None, Bool, inl, inr}
 use Rattle.std.proofs.lemmas.Bool.{cases_Bool}
 use Rattle.std.proofs.lemmas.Int.{by_lt_z, ints}
-use Rattle.ts_calendar.specs.First.{first_from}
+use Rattle.ts_calendar.specs.Calendars.{first_from}
 
 -- it is the one that passes after numbers that don't
 pub first_from-found : (test : ℤ → Bool) (k : ℤ) (more d : ℕ) → d < more → test (k +ℤ pos d) ≡ true → ((i : ℕ) → i < d → test (k +ℤ pos i) ≡ false)

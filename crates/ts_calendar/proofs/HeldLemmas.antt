@@ -3,7 +3,7 @@ use Rattle.std.proofs.Common.{◌≡◌, sym, ◌∙◌, arith, ℤ, pos, negsuc
 use Rattle.std.proofs.lemmas.Int.{by_lt_z, ints}
 use Rattle.ts_base.specs.declared.unit.Unit as unit
 use Rattle.ts_base.specs.Moment.{IsStamp, stamp_if_any}
-use Rattle.ts_calendar.specs.Intervals.{IsEarly, start_in, IsBefore, HoldsIn}
+use Rattle.ts_calendar.specs.Calendars.{IsEarly, start_in, IsBefore, HoldsIn}
 use Rattle.ts_calendar.specs.Line.{line_at, IsLineAround}
 use Rattle.ts_calendar.proofs.StampLemmas.{stamp-low, stamp-high, stamp-some, stamp-is}
 use Rattle.ts_calendar.proofs.LineLemmas.{line-start, line-rises}

@@ -8,15 +8,10 @@ use Rattle.ts_base.specs.declared.fault.Trouble.{Trouble}
 use Rattle.ts_base.specs.declared.fault.Trouble.TheVariants.{Refused, Memory}
 use Rattle.ts_base.specs.declared.unit.Unit as unit
 use Rattle.ts_pattern.specs.declared.junction.Junction.{Junction}
-use Rattle.ts_pattern.specs.Plan.{Plan}
-use Rattle.ts_pattern.specs.Runs.{has_on, same_flag}
-use Rattle.ts_pattern.specs.Units.{smaller_unit, is_monthly, size}
+use Rattle.ts_pattern.specs.Patterns.{Plan, has_on, same_flag, smaller_unit, is_monthly, size, joined_plan, joined_in, joined_flag, joined_length}
 use Rattle.ts_base.specs.Answer.{Answers}
-use Rattle.ts_pattern.specs.Algebra.{joined_plan, joined_in, joined_flag, joined_length}
 use Rattle.ts_pattern.proofs.PlanLemmas.{plan-is, smaller-made}
-use Rattle.ts_calendar.specs.Plan.{CalendarPlan}
-use Rattle.ts_calendar.specs.Intervals.{start_in}
-use Rattle.ts_calendar.specs.Calendar.{steps_between, first_step, found_or, common_grid, with_pattern, joined_calendar}
+use Rattle.ts_calendar.specs.Calendars.{CalendarPlan, start_in, steps_between, first_step, found_or, common_grid, with_pattern, joined_calendar}
 use Rattle.ts_calendar.specs.declared.grid.CommonGrid.{CommonGrid}
 
 -- a grid of a unit

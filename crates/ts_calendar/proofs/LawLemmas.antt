@@ -5,13 +5,9 @@ use Rattle.std.proofs.lemmas.Int.{by_lt_z, ints}
 use Rattle.jiff_core.proofs.SignedLemmas.{signed_arith}
 use Rattle.ts_base.specs.declared.unit.Unit as unit
 use Rattle.ts_base.specs.declared.unit.Unit.TheVariants.{Second, Minute, Hour, Day, Week, Month, Year}
-use Rattle.ts_base.specs.Moment.{IsStamp, clock_of}
-use Rattle.ts_base.specs.Months.{day_of_month}
-use Rattle.ts_calendar.specs.Plan.{CalendarPlan}
-use Rattle.ts_calendar.specs.Intervals.{IsEarly, IsLaid, IsAround, start_in, start_at, starts_from}
+use Rattle.ts_base.specs.Moment.{IsStamp, clock_of, day_of_month}
+use Rattle.ts_calendar.specs.Calendars.{CalendarPlan, IsEarly, IsLaid, IsAround, start_in, start_at, starts_from, IsNear, starts_at, steps_between, first_step, IsFirstStep}
 use Rattle.ts_calendar.specs.Line.{line_at, month_line, IsLineAround}
-use Rattle.ts_calendar.specs.First.{IsNear}
-use Rattle.ts_calendar.specs.Calendar.{starts_at, steps_between, first_step, IsFirstStep}
 use Rattle.ts_calendar.proofs.StampLemmas.{int_lt_yes, int_lt_no, stamp-some, dated}
 use Rattle.ts_calendar.proofs.LineLemmas.{line-start, line-rises, line-zero, year_in, month_at}
 use Rattle.ts_calendar.proofs.HeldLemmas.{line-order, start-is}

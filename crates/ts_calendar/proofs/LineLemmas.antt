@@ -7,12 +7,11 @@ use Rattle.jiff_core.proofs.SignedLemmas.{signed_arith}
 use Rattle.jiff_core.proofs.CalendarLemmas.{days_in_month_bounds}
 use Rattle.ts_base.specs.declared.unit.Unit as unit
 use Rattle.ts_base.specs.declared.unit.Unit.TheVariants.{Second, Minute, Hour, Day, Week, Month, Year}
-use Rattle.ts_base.specs.Moment.{Civil, IsStamp, stamp_if_any, civil_of, day_of, clock_of}
-use Rattle.ts_base.specs.Months.{month_of, months_after, day_of_month}
+use Rattle.ts_base.specs.Moment.{Civil, IsStamp, stamp_if_any, civil_of, day_of, clock_of, month_of, months_after, day_of_month}
 use Rattle.ts_base.proofs.CivilLemmas.{days_bounds, civil_of-days, natural}
 use Rattle.ts_base.proofs.MonthLemmas.{months-rise}
-use Rattle.ts_pattern.specs.Units.{is_monthly, size}
-use Rattle.ts_calendar.specs.Intervals.{IsEarly, start_in}
+use Rattle.ts_pattern.specs.Patterns.{is_monthly, size}
+use Rattle.ts_calendar.specs.Calendars.{IsEarly, start_in}
 use Rattle.ts_calendar.specs.Line.{month_line, line_at, IsLineAround, comes_after}
 use Rattle.ts_calendar.proofs.StampLemmas.{int_lt_yes, int_lt_no, int_lt-true, int_lt-false, stamp-low, stamp-high, stamp-some, stamp-is, dated}
 

@@ -7,21 +7,18 @@ use Rattle.std.proofs.lemmas.Bool.{and_parts, cases_Bool}
 use Rattle.std.proofs.lemmas.Bool.Decides.{nat_tests}
 use Rattle.std.proofs.lemmas.List.{append-nil, append_cancel_right}
 use Rattle.ts_base.specs.Name.{is_blank, is_word}
-use Rattle.ts_base.specs.StampText.{read_stamp, moment_in}
-use Rattle.ts_base.specs.Moment.{units_of as moment_units}
-use Rattle.ts_text.specs.Blanks.{unblanked, are_blanks}
+use Rattle.ts_base.specs.Moment.{read_stamp, moment_in, units_of as moment_units}
+use Rattle.ts_text.specs.Phrase.{unblanked, are_blanks, Read, Phrase, go_on, ◌>>=◌, give, word_in, a_sign, behind, in_brackets, the_end, ended, name_as, plain_front, a_word}
 use Rattle.ts_text.specs.Parted.{IsParted}
-use Rattle.ts_text.specs.Phrase.{Read, Phrase, go_on, ◌>>=◌, give, word_in, a_sign, behind, in_brackets, the_end, ended, name_as}
 use Rattle.ts_text.specs.Place.{RefusesInPlace}
-use Rattle.ts_text.specs.Plain.{plain_front, a_word}
 use Rattle.ts_text.specs.declared.token.TokenKind.{TokenKind}
 use Rattle.ts_text.specs.declared.token.TokenKind.TheVariants.{Word, Text, Sign}
 use Rattle.ts_text.proofs.CallerLemmas.{Alike, Any, Carries, Follows, Goes, IsSign, StandsBefore, Stops, Yields, YieldsIn, are_blanks-append, before-sign, before-then, before-word, begins, bind-ok, blanked, blanks_before, brackets_yield, bytes_taking, chain, chain_in, given, in_bytes, in_places, made_yields, of_token, pair-parts, plain_ending, plain_laws, plain_sign, sign-read, sign_at, sign_is, sign_left, sign_yields, split_same, stops-le, stops-word, stops_here, token_is, unblanked-le, unblanked_past, word-read}
-use Rattle.ts_pattern.specs.Grammar.{pattern_in}
+use Rattle.ts_pattern.specs.Patterns.{pattern_in}
 use Rattle.ts_pattern.proofs.GrammarLemmas.{pattern_yields}
 use Rattle.ts_calendar.specs.declared.text.PatternPart.TheVariants.{Named, Own}
 use Rattle.ts_calendar.specs.declared.text.CalendarText.{CalendarText}
-use Rattle.ts_calendar.specs.Text.{calendar_text, inside_len, inside, trimmed, stamp_or_not, stamp_in, date_in, name_in, name_part_in, pattern_part_in, part_as, part_word_in, part_behind, part_in, dates_in, calendar_in, written_calendar}
+use Rattle.ts_calendar.specs.Calendars.{calendar_text, inside_len, inside, trimmed, stamp_or_not, stamp_in, date_in, name_in, name_part_in, pattern_part_in, part_as, part_word_in, part_behind, part_in, dates_in, calendar_in, written_calendar}
 use Rattle.ts_calendar.specs.Front.{stamp_front, IsBeforeStamp, calendar_fronts}
 use Rattle.ts_calendar.proofs.StampTextLemmas.{is_inner, stamp-plain}
 use Rattle.ts_calendar.proofs.TextLemmas.{in_date, trimmed-split, named-stamp, stamp-read}

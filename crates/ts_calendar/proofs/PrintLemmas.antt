@@ -1,10 +1,9 @@
 -- What is printed of a calendar is read again.
 use Rattle.std.proofs.Common.{◌≡◌, ℕ, List, [], ◌∷◌, ◌++◌, refl, sym, ap, ◌∙◌, append_assoc, Some, Ok, ℤ, pos, ◌+ℤ◌, ◌*ℤ◌}
 use Rattle.std.specs.Prelude.{codes}
-use Rattle.ts_base.specs.Moment.{IsStamp, civil_of, day_of, clock_of}
-use Rattle.ts_base.specs.StampText.{read_stamp, stamp_text}
+use Rattle.ts_base.specs.Moment.{IsStamp, civil_of, day_of, clock_of, read_stamp, stamp_text}
 use Rattle.ts_base.proofs.RoundTrip.{read_stamp-text}
-use Rattle.ts_pattern.specs.Grammar.{printed_plan}
+use Rattle.ts_pattern.specs.Patterns.{printed_plan}
 use Rattle.ts_text.specs.Parted.{IsParted}
 use Rattle.ts_text.proofs.CallerLemmas.{parted-blanks}
 use Rattle.ts_pattern.specs.Spelling.{Word}
@@ -12,7 +11,7 @@ use Rattle.ts_pattern.proofs.PrintLemmas.{plan-itself, words_of, words-are, plan
 use Rattle.ts_calendar.specs.declared.text.PatternPart.{PatternPart}
 use Rattle.ts_calendar.specs.declared.text.PatternPart.TheVariants.{Named, Own}
 use Rattle.ts_calendar.specs.declared.text.CalendarText.{CalendarText}
-use Rattle.ts_calendar.specs.Text.{own_part, part_of_written, with_part, calendar_or_place, read_calendar, printed_part, printed_calendar, IsSoundPart, IsSound}
+use Rattle.ts_calendar.specs.Calendars.{own_part, part_of_written, with_part, calendar_or_place, read_calendar, printed_part, printed_calendar, IsSoundPart, IsSound}
 use Rattle.ts_calendar.specs.Spelling.{part_tokens, IsPart, IsCalendarText}
 use Rattle.ts_calendar.proofs.StampLemmas.{dated}
 use Rattle.ts_calendar.proofs.TextLemmas.{read}

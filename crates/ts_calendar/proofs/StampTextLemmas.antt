@@ -8,10 +8,10 @@ use Rattle.std.proofs.lemmas.Bool.Decides.{nat_tests}
 use Rattle.std.proofs.lemmas.List.{get_or-take, get_or-drop, get_or-reverse, length-reverse, reverse-reverse}
 use Rattle.std.proofs.lemmas.List.Folds.{list_all_at}
 use Rattle.ts_base.specs.Name.{is_blank}
-use Rattle.ts_base.specs.StampText.{has_stamp_form, has_stamp_length, has_stamp_signs, has_stamp_digits, all_digits, read_stamp}
+use Rattle.ts_base.specs.Moment.{has_stamp_form, has_stamp_length, has_stamp_signs, has_stamp_digits, all_digits, read_stamp}
 use Rattle.ts_base.proofs.TextLemmas.{form_facts}
-use Rattle.ts_text.specs.Blanks.{unblanked}
-use Rattle.ts_calendar.specs.Text.{trimmed}
+use Rattle.ts_text.specs.Phrase.{unblanked}
+use Rattle.ts_calendar.specs.Calendars.{trimmed}
 
 -- no closing bracket
 abbrev pub is_inner : ℕ → Bool

@@ -5,10 +5,8 @@ use Rattle.std.proofs.lemmas.Bool.{and_parts}
 use Rattle.std.proofs.lemmas.Int.{by_lt_z, ints}
 use Rattle.ts_base.specs.declared.unit.Unit as unit
 use Rattle.ts_base.specs.Moment.{IsStamp}
-use Rattle.ts_calendar.specs.Intervals.{IsEarly, start_in, starts_from, HoldsIn}
+use Rattle.ts_calendar.specs.Calendars.{IsEarly, start_in, starts_from, HoldsIn, IsNear, first_interval, starts_at, steps_between, first_step}
 use Rattle.ts_calendar.specs.Line.{line_at, IsLineAround}
-use Rattle.ts_calendar.specs.First.{IsNear, first_interval}
-use Rattle.ts_calendar.specs.Calendar.{starts_at, steps_between, first_step}
 use Rattle.ts_calendar.proofs.StampLemmas.{int_lt_no, int_lt-false, stamp-some, stamp-not}
 use Rattle.ts_calendar.proofs.LineLemmas.{line-start, line-rises}
 use Rattle.ts_calendar.proofs.HeldLemmas.{line-order, start-is, holds-around, holds-only}

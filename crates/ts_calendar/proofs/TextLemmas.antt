@@ -9,22 +9,19 @@ use Rattle.std.proofs.lemmas.List.{reverse-append, reverse-reverse, take-append-
 use Rattle.std.proofs.lemmas.Slice.Eq.{bytes_eq-Decides}
 use Rattle.std.proofs.Math.Seq.{take-append_seam, drop-append_seam}
 use Rattle.ts_base.specs.Name.{is_blank, is_word, is_name, name_if_any}
-use Rattle.ts_base.specs.StampText.{read_stamp}
-use Rattle.ts_text.specs.Blanks.{unblanked, are_blanks}
+use Rattle.ts_base.specs.Moment.{read_stamp}
+use Rattle.ts_text.specs.Phrase.{unblanked, are_blanks, Read, Phrase, go_on, ◌>>=◌, give, a_sign, behind, in_brackets, made, the_end, ended, outcome, name_as, plain_front, a_word}
 use Rattle.ts_text.specs.Parted.{IsParted}
-use Rattle.ts_text.specs.Phrase.{Read, Phrase, go_on, ◌>>=◌, give, a_sign, behind, in_brackets, made, the_end, ended, outcome, name_as}
-use Rattle.ts_text.specs.Plain.{plain_front, a_word}
 use Rattle.ts_text.specs.declared.token.TokenKind.{TokenKind}
 use Rattle.ts_text.specs.declared.token.TokenKind.TheVariants.{Word as TheWord, Number, Text, Sign}
 use Rattle.ts_text.proofs.CallerLemmas.{blanked, unblanked_past, unblanked-le, sign_at, plain_laws, word_stands, bind-ok, pair-parts, are_blanks-append, parted-blanks, parted-token, IsSolid, token-first, token-found, token-read, sign-found, sign-read, word-found, word-read, stops-word, end-found, end-read}
-use Rattle.ts_pattern.specs.Plan.{Plan}
-use Rattle.ts_pattern.specs.Grammar.{pattern_in}
+use Rattle.ts_pattern.specs.Patterns.{Plan, pattern_in}
 use Rattle.ts_pattern.specs.Spelling.{Word, pattern_before, run_of}
 use Rattle.ts_pattern.proofs.PatternTextLemmas.{pattern-found, pattern-read}
 use Rattle.ts_calendar.specs.declared.text.PatternPart.{PatternPart}
 use Rattle.ts_calendar.specs.declared.text.PatternPart.TheVariants.{Named, Own}
 use Rattle.ts_calendar.specs.declared.text.CalendarText.{CalendarText}
-use Rattle.ts_calendar.specs.Text.{calendar_text, inside_len, trimmed, inside, stamp_or_not, stamp_in, date_in, name_in, name_part_in, pattern_part_in, part_as, part_word_in, part_behind, part_in, dates_in, calendar_in, written_calendar}
+use Rattle.ts_calendar.specs.Calendars.{calendar_text, inside_len, trimmed, inside, stamp_or_not, stamp_in, date_in, name_in, name_part_in, pattern_part_in, part_as, part_word_in, part_behind, part_in, dates_in, calendar_in, written_calendar}
 use Rattle.ts_calendar.specs.Spelling.{part_tokens, IsPart, IsCalendarText}
 use Rattle.ts_calendar.proofs.StampTextLemmas.{is_inner, IsPlain, stamp-plain}
 

@@ -12,22 +12,15 @@ use Rattle.ts_base.specs.declared.fault.Trouble.{Trouble}
 use Rattle.ts_base.specs.declared.fault.Trouble.TheVariants.{Refused, Memory}
 use Rattle.ts_base.specs.declared.unit.Unit as unit
 use Rattle.ts_base.specs.declared.unit.Unit.TheVariants.{Second, Minute, Hour, Day, Week, Month, Year}
-use Rattle.ts_base.specs.Moment.{IsStamp, stamp_if_any, clock_of}
-use Rattle.ts_base.specs.Months.{day_of_month}
+use Rattle.ts_base.specs.Moment.{IsStamp, stamp_if_any, clock_of, day_of_month}
 use Rattle.ts_pattern.specs.declared.junction.Junction.{Junction}
-use Rattle.ts_pattern.specs.Plan.{Plan}
-use Rattle.ts_pattern.specs.Runs.{total, flag, has_on, runs_of}
-use Rattle.ts_pattern.specs.Units.{is_monthly, smaller_unit}
+use Rattle.ts_pattern.specs.Patterns.{Plan, total, flag, has_on, runs_of, is_monthly, smaller_unit, joined_plan, joined_in, joined_flag, joined_length}
 use Rattle.ts_base.specs.Answer.{Answers}
-use Rattle.ts_pattern.specs.Algebra.{joined_plan, joined_in, joined_flag, joined_length}
 use Rattle.ts_pattern.proofs.PlanLemmas.{plan-is}
 use Rattle.ts_pattern.proofs.JoinLemmas.{total-runs_from}
 use Rattle.ts_pattern.proofs.GrowLemmas.{runs_of-zero}
-use Rattle.ts_calendar.specs.Plan.{CalendarPlan}
-use Rattle.ts_calendar.specs.Intervals.{IsEarly, IsLaid, start_in, starts_from}
+use Rattle.ts_calendar.specs.Calendars.{CalendarPlan, IsEarly, IsLaid, start_in, starts_from, reach, near_count, is_late, IsValid, IsJoin, valid_calendar, steps_between, first_step, found_or, with_pattern, joined_calendar}
 use Rattle.ts_calendar.specs.Line.{line_at, month_line}
-use Rattle.ts_calendar.specs.First.{reach, near_count}
-use Rattle.ts_calendar.specs.Calendar.{is_late, IsValid, IsJoin, valid_calendar, steps_between, first_step, found_or, with_pattern, joined_calendar}
 use Rattle.ts_calendar.proofs.StampLemmas.{int_lt_yes, int_lt_no, int_lt-false, stamp-is}
 use Rattle.ts_calendar.proofs.LineLemmas.{line-start, month_at, day-kept, date-moved}
 use Rattle.ts_calendar.proofs.HeldLemmas.{start-is}

@@ -1,7 +1,6 @@
 -- The place of a stamp in its month.
 use Rattle.std.specs.Prelude.{◌≡◌, ◌+◌, ◌-◌, ◌*◌, ℤ, pos, neg_ℤ, ◌-ℤ◌, ◌≤ℤ◌}
-use Rattle.ts_base.specs.Moment.{IsStamp, civil_of, day_of, clock_of}
-use Rattle.ts_base.specs.Months.{month_of, day_of_month}
+use Rattle.ts_base.specs.Moment.{IsStamp, civil_of, day_of, clock_of, month_of, day_of_month}
 
 -- the number of a stamp's month, and the units from the month's first moment to the stamp, less those from 1 March of
 -- the year 0 to 1970

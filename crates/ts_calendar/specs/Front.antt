@@ -1,14 +1,13 @@
 -- The tokens of a calendar's text: a stamp where one stands, and the plain tokens elsewhere.
 use Rattle.std.specs.Prelude.{◌≡◌, ◌⊎◌, ℕ, ◌==◌, if◌then◌else◌, ℤ, List, [], ◌∷◌, length, Option, Some, None, codes}
 use Rattle.ts_base.specs.Name.{is_blank}
-use Rattle.ts_base.specs.StampText.{read_stamp}
-use Rattle.ts_text.specs.Front.{Front}
+use Rattle.ts_base.specs.Moment.{read_stamp}
+use Rattle.ts_text.specs.Phrase.{Front, plain_front}
 use Rattle.ts_text.specs.Parted.{IsParted}
 use Rattle.ts_text.specs.Place.{inside_or}
-use Rattle.ts_text.specs.Plain.{plain_front}
 use Rattle.ts_text.specs.declared.token.TokenKind.{TokenKind}
 use Rattle.ts_text.specs.declared.token.TokenKind.TheVariants.{Text, Sign}
-use Rattle.ts_calendar.specs.Text.{inside}
+use Rattle.ts_calendar.specs.Calendars.{inside}
 
 -- where a stamp stands: the bytes up to the next closing bracket, without the blanks at their two ends, or the bracket
 abbrev pub stamp_front : List ℕ → Option (TokenKind × ℕ)

@@ -1,10 +1,6 @@
-pub mod Plan
-pub mod Intervals
+pub mod Calendars
 pub mod Dated
 pub mod Line
-pub mod First
-pub mod Calendar
-pub mod Text
 pub mod Front
 pub mod Written
 pub mod Spelling

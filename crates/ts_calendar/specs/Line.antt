@@ -4,9 +4,8 @@ use Rattle.std.specs.Prelude.{◌-ℤ◌, ◌*ℤ◌, ◌≤ℤ◌, ◌<ℤ◌, 
 use Rattle.std.specs.Int.{int_div_euclid, int_rem_euclid}
 use Rattle.jiff_core.specs.Calendar.{days_from_civil}
 use Rattle.ts_base.specs.declared.unit.Unit as unit
-use Rattle.ts_base.specs.Moment.{civil_of, day_of, clock_of}
-use Rattle.ts_base.specs.Months.{month_of}
-use Rattle.ts_pattern.specs.Units.{is_monthly, size}
+use Rattle.ts_base.specs.Moment.{civil_of, day_of, clock_of, month_of}
+use Rattle.ts_pattern.specs.Patterns.{is_monthly, size}
 
 -- a day and a time in month number n; beyond the years 1 to 9999 one number a month, in their order
 abbrev pub month_line : ℕ → ℕ → ℤ → ℤ

@@ -1,7 +1,7 @@
 -- Which tokens are a calendar's text.
 use Rattle.std.specs.Prelude.{◌≡◌, ℕ, List, [], ◌∷◌, Some, IsTrue, codes}
 use Rattle.ts_base.specs.Name.{is_name}
-use Rattle.ts_base.specs.StampText.{read_stamp}
+use Rattle.ts_base.specs.Moment.{read_stamp}
 use Rattle.ts_text.specs.Parted.{IsParted}
 use Rattle.ts_pattern.specs.Spelling.{Word, AreRuns, pattern_before}
 use Rattle.ts_calendar.specs.declared.text.PatternPart.{PatternPart}

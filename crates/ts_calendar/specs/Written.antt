@@ -5,7 +5,7 @@ use Rattle.ts_calendar.specs.declared.text.CalendarText.{CalendarText}
 use Rattle.ts_calendar.specs.declared.read.WrittenPart.{WrittenPart}
 use Rattle.ts_calendar.specs.declared.read.WrittenPart.TheVariants as written
 use Rattle.ts_calendar.specs.declared.read.WrittenCalendar.{WrittenCalendar}
-use Rattle.ts_calendar.specs.Text.{calendar_text}
+use Rattle.ts_calendar.specs.Calendars.{calendar_text}
 
 -- the part, with a pattern as it is written
 abbrev pub part_of : WrittenPart → PatternPart

@@ -1,7 +1,6 @@
 // The date of a stamp.
 ghost use Rattle.std.specs.Prelude.{◌≡◌, ◌≤◌, ◌<◌, pos, negsuc};
-ghost use Rattle.ts_base.specs.Moment.{IsStamp, day_of, civil_of};
-ghost use Rattle.ts_base.specs.Months.{month_of};
+ghost use Rattle.ts_base.specs.Moment.{IsStamp, day_of, civil_of, month_of};
 ghost use Rattle.jiff_core.specs.Calendar.{IsBetween};
 
 use jiff_core::civil::Date;

@@ -1,8 +1,7 @@
 // Stamps with their month, so that they are moved by months without a date.
 ghost use Rattle.std.specs.Prelude.{◌≡◌, ◌+◌, ◌≤◌, ◌<◌, ◌/◌, ◌%◌, ◌-ℤ◌, ◌*ℤ◌, ◌+ℤ◌, pos, IsSome, Some};
 ghost use Rattle.jiff_core.specs.Calendar.{IsBetween, days_from_civil};
-ghost use Rattle.ts_base.specs.Moment.{IsStamp, day_of, civil_of};
-ghost use Rattle.ts_base.specs.Months.{month_of, months_after, day_of_month};
+ghost use Rattle.ts_base.specs.Moment.{IsStamp, day_of, civil_of, month_of, months_after, day_of_month};
 
 use crate::civil::{DAY, civil, day_number, units_of};
 use std::marker::Model;

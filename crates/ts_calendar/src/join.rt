@@ -6,14 +6,11 @@ ghost use Rattle.ts_base.specs.declared.unit.Unit as unit;
 ghost use Rattle.ts_base.specs.declared.refusal.Refusal.TheVariants.{PastEnd};
 ghost use Rattle.ts_base.specs.declared.fault.Trouble.TheVariants.{Refused};
 ghost use Rattle.ts_base.specs.Answer.{Answers};
-ghost use Rattle.ts_pattern.specs.Algebra.{joined_plan, joined_flag, joined_length};
-ghost use Rattle.ts_pattern.specs.Plan.{Plan};
-ghost use Rattle.ts_pattern.specs.Runs.{flag, has_on, total};
-ghost use Rattle.ts_pattern.specs.Units.{smaller_unit};
+ghost use Rattle.ts_pattern.specs.Patterns.{joined_plan, joined_flag, joined_length, Plan, flag, has_on, total};
+ghost use Rattle.ts_pattern.specs.Patterns.{smaller_unit};
 ghost use Rattle.ts_pattern.specs.declared.junction.Junction.TheVariants.{And, Or};
-ghost use Rattle.ts_calendar.specs.Calendar.{common_grid, joined_calendar, with_pattern, IsValid, IsJoin};
-ghost use Rattle.ts_calendar.specs.First.{IsNear};
-ghost use Rattle.ts_calendar.specs.Intervals.{IsEarly};
+ghost use Rattle.ts_calendar.specs.Calendars.{common_grid, joined_calendar, with_pattern, IsValid, IsJoin, IsNear};
+ghost use Rattle.ts_calendar.specs.Calendars.{IsEarly};
 
 use crate::dated::Dated;
 use crate::steps::{first_step, start_in, steps_between};

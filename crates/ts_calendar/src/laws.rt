@@ -2,9 +2,8 @@
 ghost use Rattle.std.specs.Prelude.{◌≡◌, ◌↔◌, ℤ, ◌≤ℤ◌, ◌<ℤ◌, Some, None, IsSome};
 ghost use Rattle.ts_base.specs.Moment.{IsStamp};
 ghost use Rattle.ts_base.specs.declared.unit.Unit.{Unit};
-ghost use Rattle.ts_calendar.specs.Plan.{CalendarPlan};
-ghost use Rattle.ts_calendar.specs.Intervals.{IsEarly, IsLaid, start_in, start_at};
-ghost use Rattle.ts_calendar.specs.Calendar.{steps_between, first_step, IsFirstStep};
+ghost use Rattle.ts_calendar.specs.Calendars.{CalendarPlan, IsEarly, IsLaid, start_in, start_at, steps_between};
+ghost use Rattle.ts_calendar.specs.Calendars.{first_step, IsFirstStep};
 
 /// Intervals start one after the other, and between two that exist each one does.
 pub fn starts_rise()

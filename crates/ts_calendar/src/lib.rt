@@ -1,8 +1,8 @@
 //! Calendars: intervals of one unit on the line of stamps, of which a pattern says which ones are on. Where an interval
-//! starts, which one holds a stamp and which are on is `specs/Intervals`; which calendars are valid, the grid that two
-//! of them have in common, and their AND and OR, is `specs/Calendar`; their texts are `specs/Text`. All of it is closed
-//! arithmetic, by jiff's calendar for months. That starts rise, and where steps lead, are laws (`laws.rt`). Stands on
-//! ts_pattern and ts_base; knows nothing of series. Read `specs/Intervals.antt`, then `calendar.rt`.
+//! starts, which one holds a stamp and which are on, which calendars are valid, the grid that two of them have in
+//! common, their AND and OR, and their texts are `specs/Calendars`. All of it is closed arithmetic, by jiff's calendar
+//! for months. That starts rise, and where steps lead, are laws (`laws.rt`). Stands on ts_pattern and ts_base; knows
+//! nothing of series. Read `specs/Calendars.antt`, then `calendar.rt`.
 #![tactic(auto)]
 
 mod calendar;

@@ -2,10 +2,9 @@
 ghost use Rattle.std.specs.Prelude.{◌≡◌, ◌^◌, ◌<◌, ◌≤◌, Ok, IfOk, IfErr, [], length};
 ghost use Rattle.ts_base.specs.Answer.{Answers};
 ghost use Rattle.ts_text.specs.Misfit.{Refuses, RefusesExactly};
-ghost use Rattle.ts_text.specs.Phrase.{a_sign, the_end, ended};
-ghost use Rattle.ts_text.specs.Plain.{a_word};
+ghost use Rattle.ts_text.specs.Phrase.{a_sign, the_end, ended, a_word};
 ghost use Rattle.ts_text.specs.declared.token.TokenKind.TheVariants.{Word};
-ghost use Rattle.ts_calendar.specs.Text;
+ghost use Rattle.ts_calendar.specs.Calendars;
 ghost use Rattle.ts_calendar.specs.Written.{text_of, part_of};
 
 use crate::{CalendarText, PatternPart};
@@ -32,7 +31,7 @@ pub(crate) struct WrittenCalendar {
 impl WrittenCalendar {
     /// The text with the runs of its pattern merged.
     pub fn into_text(self) -> Result<CalendarText, Trouble>
-        ensures { Answers (Text.calendar_of_written (text_of self)) result }
+        ensures { Answers (Calendars.calendar_of_written (text_of self)) result }
     {
         let part = self.part.into_part()?;
         Ok(CalendarText {
@@ -45,7 +44,7 @@ impl WrittenCalendar {
 
 impl WrittenPart {
     fn into_part(self) -> Result<PatternPart, Trouble>
-        ensures { Answers (Text.part_of_written (part_of self)) result }
+        ensures { Answers (Calendars.part_of_written (part_of self)) result }
     {
         match self {
             WrittenPart::Named(name) => Ok(PatternPart::Named(name)),
@@ -58,11 +57,11 @@ impl WrittenPart {
 }
 
 /// What a text says, as it is written.
-#[tactic(auto, unfolding(crate::specs::Text::calendar_in))]
+#[tactic(auto, unfolding(crate::specs::Calendars::calendar_in))]
 pub(crate) fn written_calendar(alloc: Global, text: &[u8]) -> Result<WrittenCalendar, Misfit>
     requires { length text.now < 2 ^ 32 }
-    ensures ok { IfOk result (λ c. ended [] Text.calendar_in text.now ≡ Ok (text_of c, [])) }
-    ensures cause { IfErr result (λ misfit. Refuses misfit (ended [] Text.calendar_in text.now)) }
+    ensures ok { IfOk result (λ c. ended [] Calendars.calendar_in text.now ≡ Ok (text_of c, [])) }
+    ensures cause { IfErr result (λ misfit. Refuses misfit (ended [] Calendars.calendar_in text.now)) }
 {
     let mut rest = Rest { text };
     let (start, patt_start) = rest.dates()?;
@@ -108,10 +107,10 @@ impl<'a> Rest<'a> {
     }
 
     // The start and the pattern start, each with a comma behind it.
-    #[tactic(auto, unfolding(crate::specs::Text::dates_in))]
+    #[tactic(auto, unfolding(crate::specs::Calendars::dates_in))]
     fn dates(&mut self) -> Result<(Stamp, Stamp), Misfit>
-        ensures ok { IfOk result (λ x. Text.dates_in self.old.text.now ≡ Ok ((x.0, x.1), self.new.text.now)) }
-        ensures cause { IfErr result (λ misfit. RefusesExactly misfit (Text.dates_in self.old.text.now)) }
+        ensures ok { IfOk result (λ x. Calendars.dates_in self.old.text.now ≡ Ok ((x.0, x.1), self.new.text.now)) }
+        ensures cause { IfErr result (λ misfit. RefusesExactly misfit (Calendars.dates_in self.old.text.now)) }
         ensures shorter { IfOk result (λ _. length self.new.text.now ≤ length self.old.text.now) }
     {
         let start = self.date(b"startdate")?;
@@ -122,10 +121,10 @@ impl<'a> Rest<'a> {
     }
 
     // A certain word, and a stamp in brackets.
-    #[tactic(auto, unfolding(crate::specs::Text::date_in))]
+    #[tactic(auto, unfolding(crate::specs::Calendars::date_in))]
     fn date(&mut self, word: &[u8]) -> Result<Stamp, Misfit>
-        ensures ok { IfOk result (λ s. Text.date_in word.now self.old.text.now ≡ Ok (s, self.new.text.now)) }
-        ensures cause { IfErr result (λ misfit. RefusesExactly misfit (Text.date_in word.now self.old.text.now)) }
+        ensures ok { IfOk result (λ s. Calendars.date_in word.now self.old.text.now ≡ Ok (s, self.new.text.now)) }
+        ensures cause { IfErr result (λ misfit. RefusesExactly misfit (Calendars.date_in word.now self.old.text.now)) }
         ensures shorter { IfOk result (λ _. length self.new.text.now ≤ length self.old.text.now) }
     {
         self.word(word)?;
@@ -137,8 +136,8 @@ impl<'a> Rest<'a> {
 
     // A stamp before a closing bracket.
     fn stamp(&mut self) -> Result<Stamp, Misfit>
-        ensures ok { IfOk result (λ s. Text.stamp_in self.old.text.now ≡ Ok (s, self.new.text.now)) }
-        ensures cause { IfErr result (λ misfit. RefusesExactly misfit (Text.stamp_in self.old.text.now)) }
+        ensures ok { IfOk result (λ s. Calendars.stamp_in self.old.text.now ≡ Ok (s, self.new.text.now)) }
+        ensures cause { IfErr result (λ misfit. RefusesExactly misfit (Calendars.stamp_in self.old.text.now)) }
         ensures shorter { IfOk result (λ _. length self.new.text.now ≤ length self.old.text.now) }
     {
         let text = skip_blanks(self.text);
@@ -153,11 +152,11 @@ impl<'a> Rest<'a> {
     }
 
     // Which pattern.
-    #[tactic(auto, unfolding(crate::specs::Text::part_in))]
+    #[tactic(auto, unfolding(crate::specs::Calendars::part_in))]
     fn part(&mut self, alloc: Global) -> Result<WrittenPart, Misfit>
         requires { length self.old.text.now < 2 ^ 32 }
-        ensures ok { IfOk result (λ p. Text.part_in self.old.text.now ≡ Ok (part_of p, self.new.text.now)) }
-        ensures cause { IfErr result (λ misfit. Refuses misfit (Text.part_in self.old.text.now)) }
+        ensures ok { IfOk result (λ p. Calendars.part_in self.old.text.now ≡ Ok (part_of p, self.new.text.now)) }
+        ensures cause { IfErr result (λ misfit. Refuses misfit (Calendars.part_in self.old.text.now)) }
     {
         if self.part_word()? {
             self.name_part(alloc)
@@ -167,10 +166,11 @@ impl<'a> Rest<'a> {
     }
 
     // Whether a name follows, or a pattern.
-    #[tactic(auto, unfolding(crate::specs::Text::part_word_in))]
+    #[tactic(auto, unfolding(crate::specs::Calendars::part_word_in))]
     fn part_word(&mut self) -> Result<bool, Misfit>
-        ensures ok { IfOk result (λ is_named. Text.part_word_in self.old.text.now ≡ Ok (is_named, self.new.text.now)) }
-        ensures cause { IfErr result (λ misfit. RefusesExactly misfit (Text.part_word_in self.old.text.now)) }
+        ensures ok { IfOk result
+            (λ is_named. Calendars.part_word_in self.old.text.now ≡ Ok (is_named, self.new.text.now)) }
+        ensures cause { IfErr result (λ misfit. RefusesExactly misfit (Calendars.part_word_in self.old.text.now)) }
         ensures shorter { IfOk result (λ _. length self.new.text.now ≤ length self.old.text.now) }
     {
         let here = skip_blanks(self.text);
@@ -185,10 +185,10 @@ impl<'a> Rest<'a> {
     }
 
     // The name of a pattern, in brackets.
-    #[tactic(auto, unfolding(crate::specs::Text::name_part_in))]
+    #[tactic(auto, unfolding(crate::specs::Calendars::name_part_in))]
     fn name_part(&mut self, alloc: Global) -> Result<WrittenPart, Misfit>
-        ensures ok { IfOk result (λ p. Text.name_part_in self.old.text.now ≡ Ok (part_of p, self.new.text.now)) }
-        ensures cause { IfErr result (λ misfit. Refuses misfit (Text.name_part_in self.old.text.now)) }
+        ensures ok { IfOk result (λ p. Calendars.name_part_in self.old.text.now ≡ Ok (part_of p, self.new.text.now)) }
+        ensures cause { IfErr result (λ misfit. Refuses misfit (Calendars.name_part_in self.old.text.now)) }
     {
         self.sign(b'(')?;
         let name = self.name(alloc)?;
@@ -197,10 +197,10 @@ impl<'a> Rest<'a> {
     }
 
     // A word of 1 to 32 bytes.
-    #[tactic(auto, unfolding(crate::specs::Text::name_in))]
+    #[tactic(auto, unfolding(crate::specs::Calendars::name_in))]
     fn name(&mut self, alloc: Global) -> Result<Name, Misfit>
-        ensures ok { IfOk result (λ n. Text.name_in self.old.text.now ≡ Ok (n, self.new.text.now)) }
-        ensures cause { IfErr result (λ misfit. Refuses misfit (Text.name_in self.old.text.now)) }
+        ensures ok { IfOk result (λ n. Calendars.name_in self.old.text.now ≡ Ok (n, self.new.text.now)) }
+        ensures cause { IfErr result (λ misfit. Refuses misfit (Calendars.name_in self.old.text.now)) }
     {
         let here = skip_blanks(self.text);
         if let Some((TokenKind::Word, length)) = plain_front(here) {
@@ -214,11 +214,12 @@ impl<'a> Rest<'a> {
     }
 
     // A pattern as it is written, in brackets.
-    #[tactic(auto, unfolding(crate::specs::Text::pattern_part_in))]
+    #[tactic(auto, unfolding(crate::specs::Calendars::pattern_part_in))]
     fn pattern_part(&mut self, alloc: Global) -> Result<WrittenPart, Misfit>
         requires { length self.old.text.now < 2 ^ 32 }
-        ensures ok { IfOk result (λ p. Text.pattern_part_in self.old.text.now ≡ Ok (part_of p, self.new.text.now)) }
-        ensures cause { IfErr result (λ misfit. Refuses misfit (Text.pattern_part_in self.old.text.now)) }
+        ensures ok { IfOk result
+            (λ p. Calendars.pattern_part_in self.old.text.now ≡ Ok (part_of p, self.new.text.now)) }
+        ensures cause { IfErr result (λ misfit. Refuses misfit (Calendars.pattern_part_in self.old.text.now)) }
     {
         self.sign(b'(')?;
         let (pattern, rest) = pattern_in(alloc, self.text)?;
@@ -230,7 +231,7 @@ impl<'a> Rest<'a> {
 
 // Whether a word says that a name follows, or that a pattern does.
 fn names_pattern(word: &[u8]) -> Option<bool>
-    ensures { result ≡ Text.part_as Word word.now }
+    ensures { result ≡ Calendars.part_as Word word.now }
 {
     if word == b"pattname".as_slice() {
         return Some(true);
@@ -243,7 +244,7 @@ fn names_pattern(word: &[u8]) -> Option<bool>
 }
 
 fn inside_len(text: &[u8]) -> usize
-    ensures value { result ≡ Text.inside_len text.now }
+    ensures value { result ≡ Calendars.inside_len text.now }
     ensures within { result ≤ length text.now }
 {
     for (at, byte) in text.iter().enumerate() {
@@ -256,7 +257,7 @@ fn inside_len(text: &[u8]) -> usize
 
 // The text without the blanks at its end.
 fn trimmed(text: &[u8]) -> &[u8]
-    ensures { result.now ≡ Text.trimmed text.now }
+    ensures { result.now ≡ Calendars.trimmed text.now }
 {
     let mut rest = text;
     while let [front @ .., last] = rest {

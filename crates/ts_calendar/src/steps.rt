@@ -2,12 +2,9 @@
 ghost use Rattle.std.specs.Prelude.{◌≡◌, ◌+◌, ◌*◌, ◌≤◌, ◌<◌, pos, negsuc, ℤ, ◌+ℤ◌, ◌*ℤ◌, ◌≤ℤ◌, IsTrue, IsSome, IfSome};
 ghost use Rattle.std.specs.Prelude.{IfNone, Some};
 ghost use Rattle.std.specs.Int.{int_div_euclid};
-ghost use Rattle.ts_pattern.specs.Units.{size, is_monthly};
-ghost use Rattle.ts_calendar.specs.Calendar.{steps_between, first_step, starts_at};
-ghost use Rattle.ts_calendar.specs.First.{IsNear};
-ghost use Rattle.ts_calendar.specs.Intervals.{IsEarly, start_in};
-ghost use Rattle.ts_base.specs.Moment.{stamp_if_any, IsStamp};
-ghost use Rattle.ts_base.specs.Months.{months_after, day_of_month};
+ghost use Rattle.ts_pattern.specs.Patterns.{size, is_monthly};
+ghost use Rattle.ts_calendar.specs.Calendars.{steps_between, first_step, starts_at, IsNear, IsEarly, start_in};
+ghost use Rattle.ts_base.specs.Moment.{stamp_if_any, IsStamp, months_after, day_of_month};
 ghost use Rattle.ts_calendar.specs.Line.{IsLineAround, comes_after};
 ghost use Rattle.ts_base.specs.declared.unit.Unit.TheVariants.{Month, Year};
 

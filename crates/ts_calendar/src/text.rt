@@ -1,12 +1,12 @@
 // Calendars as texts: `startdate(S), pattstart(S), pattname(N)` or `.., pattern(P)`.
 ghost use Rattle.std.specs.Prelude.{◌≡◌, ◌↔◌, ℕ, List, ◌++◌, ◌^◌, ◌<◌, Ok, length, IfOk, OnOk, OnErr};
 ghost use Rattle.ts_base.specs.Answer.{Answers};
-ghost use Rattle.ts_base.specs.StampText.{stamp_text};
+ghost use Rattle.ts_base.specs.Moment.{stamp_text};
 ghost use Rattle.ts_calendar.specs.declared.text.CalendarText.{CalendarText};
 ghost use Rattle.ts_text.specs.Place.{RefusesInPlace};
 ghost use Rattle.ts_calendar.specs.Front.{calendar_fronts};
 ghost use Rattle.ts_calendar.specs.Spelling.{IsCalendarText};
-ghost use Rattle.ts_calendar.specs.Text.{read_calendar, written_calendar, printed_calendar, printed_part, IsSound};
+ghost use Rattle.ts_calendar.specs.Calendars.{read_calendar, written_calendar, printed_calendar, printed_part, IsSound};
 
 use crate::read::written_calendar;
 use std::alloc::{AllocError, Global};

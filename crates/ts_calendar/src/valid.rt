@@ -1,7 +1,6 @@
 // Which starts and patterns make a calendar.
 ghost use Rattle.std.specs.Prelude.{◌≡◌};
-ghost use Rattle.ts_calendar.specs.Calendar.{is_late, is_apart};
-ghost use Rattle.ts_calendar.specs.Intervals.{IsEarly, starts_from};
+ghost use Rattle.ts_calendar.specs.Calendars.{is_late, is_apart, IsEarly, starts_from};
 ghost use Rattle.ts_base.specs.Moment.{IsStamp};
 
 use crate::dated::Dated;

@@ -3,14 +3,13 @@ use Rattle.std.proofs.Common.{◌≡◌, ℕ, IsTrue, List, [], ◌++◌, length
 use Rattle.std.proofs.lemmas.List.{append-nil}
 use Rattle.ts_disk.specs.Device.{Device, Lawful, LeavesOnly}
 use Rattle.ts_disk.proofs.Moments.{started, then_on, leaves_map}
-use Rattle.ts_replies.specs.Acknowledged.{Protocol}
+use Rattle.ts_replies.specs.Acknowledged.{Protocol, IsGoodMoment}
 use Rattle.ts_replies.proofs.Steps.{none_good, answered_then, moment_more, moment_then}
 use Rattle.ts_replies.proofs.Hearing.{fair_more, fair_then}
 use Rattle.ts_carriers.specs.declared.fault.RunFault.{RunFault}
 use Rattle.ts_carriers.specs.declared.fault.RunFault.TheVariants.{Disk, Output}
 use Rattle.ts_carriers.specs.Run.{Carrier, Answered, Ran}
 use Rattle.ts_replies.specs.Said.{SaysFairly}
-use Rattle.ts_replies.specs.Good.{IsGoodMoment}
 use Rattle.ts_carriers.proofs.SayingLemmas.{IsSteady, rose_on}
 
 -- a fault is the same of a run with another value

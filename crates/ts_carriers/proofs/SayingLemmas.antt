@@ -4,12 +4,11 @@ use Rattle.std.proofs.lemmas.List.{append-nil}
 use Rattle.ts_disk.specs.Device.{Device, Lawful, Within, LeavesOnly, Says, Rose}
 use Rattle.ts_disk.proofs.Moments.{started, goes_on, leaves_map}
 use Rattle.ts_journal.specs.Moment.{Keeps}
-use Rattle.ts_replies.specs.Acknowledged.{Protocol, IsStep, TellsApart}
+use Rattle.ts_replies.specs.Acknowledged.{Protocol, IsStep, TellsApart, IsGoodMoment}
 use Rattle.ts_replies.proofs.Steps.{one_answered, one_fair, one_good, one_waits}
 use Rattle.ts_carriers.specs.declared.fault.RunFault.{RunFault}
 use Rattle.ts_carriers.specs.declared.fault.RunFault.TheVariants.{Disk, Output}
 use Rattle.ts_carriers.specs.Run.{Carrier, Ran, SaysReply}
-use Rattle.ts_replies.specs.Good.{IsGoodMoment}
 use Rattle.ts_carriers.proofs.ReplyLemmas.{reply_said}
 
 -- the two truth values are apart

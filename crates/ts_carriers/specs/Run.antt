@@ -2,8 +2,7 @@
 use Rattle.std.specs.Prelude.{◌≡◌, ◌≤◌, ℕ, Bool, IsTrue, List, ◌++◌, Result, Ok, Err}
 use Rattle.std.specs.Prelude.{OnOk, OnErr, IsOk, IsErr, IsErrOf}
 use Rattle.ts_disk.specs.Device.{Device, Elapses, LeavesOnly, Rose, Within}
-use Rattle.ts_replies.specs.Acknowledged.{Protocol, IsFront, AllAnswered}
-use Rattle.ts_replies.specs.Good.{IsGoodMoment}
+use Rattle.ts_replies.specs.Acknowledged.{Protocol, IsFront, AllAnswered, IsGoodMoment}
 use Rattle.ts_replies.specs.Said.{SaysFairly}
 use Rattle.ts_carriers.specs.declared.fault.RunFault.{RunFault}
 use Rattle.ts_carriers.specs.declared.fault.RunFault.TheVariants.{Disk, Output}

@@ -8,8 +8,7 @@ use Rattle.std.proofs.lemmas.Bool.Decides.{nat_tests}
 use Rattle.std.specs.FinMap.{empty, entries, get, insert, len, len-entries, len-empty, int_cmp-IsAntisymmetric}
 use Rattle.std.specs.FinMap.Entries.{where_key}
 use Rattle.ts_row.specs.declared.kind.Column.{Column}
-use Rattle.ts_row.specs.Row.{Row}
-use Rattle.ts_row.specs.RowType.{is_row_type, width_of}
+use Rattle.ts_row.specs.Row.{Row, is_row_type, width_of}
 use Rattle.ts_space.specs.Charge.{distinct_count, regular_charge, irregular_charge}
 use Rattle.ts_space.proofs.ChargeLemmas.{charge_grows}
 use Rattle.ts_offset.specs.Grid.{starts_before}

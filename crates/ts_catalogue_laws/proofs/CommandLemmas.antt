@@ -16,45 +16,35 @@ use Rattle.ts_base.specs.declared.refusal.Refusal.{Refusal}
 use Rattle.ts_base.specs.declared.refusal.Refusal.TheVariants as refusals
 use Rattle.ts_row.specs.declared.kind.Column.{Column}
 use Rattle.ts_row.specs.declared.value.Literal.{Literal}
-use Rattle.ts_row.specs.Row.{Row, Values, values_from, visible_if_any, row_of, fits, marked}
-use Rattle.ts_row.specs.RowType.{bad_column, has_long_decimal}
-use Rattle.ts_row.specs.Element.{Element}
+use Rattle.ts_row.specs.Row.{Row, Values, values_from, visible_if_any, row_of, fits, marked, bad_column, has_long_decimal, Element}
 use Rattle.ts_row.proofs.RowLemmas.{given_fits}
 use Rattle.ts_row.proofs.RowTypeLemmas.{is_row_type-good}
 use Rattle.ts_pattern.specs.declared.junction.Junction.{Junction}
 use Rattle.ts_pattern.specs.declared.junction.Junction.TheVariants.{And, Or}
-use Rattle.ts_pattern.specs.Plan.{Plan}
-use Rattle.ts_pattern.specs.Runs.{has_on, is_pattern, turned}
-use Rattle.ts_calendar.specs.Plan.{CalendarPlan}
-use Rattle.ts_calendar.specs.Calendar.{is_late, is_apart, valid_calendar, IsValid}
-use Rattle.ts_calendar.specs.Intervals.{IsLaid}
-use Rattle.ts_calendar.specs.Text.{calendar_text}
+use Rattle.ts_pattern.specs.Patterns.{Plan, has_on, is_pattern, turned}
+use Rattle.ts_calendar.specs.Calendars.{CalendarPlan, is_late, is_apart, valid_calendar, IsValid, IsLaid, calendar_text}
 use Rattle.ts_calendar.specs.declared.text.PatternPart.{PatternPart}
 use Rattle.ts_calendar.specs.declared.text.PatternPart.TheVariants.{Named as ByName, Own}
 use Rattle.ts_calendar.specs.declared.text.CalendarText.{CalendarText}
 use Rattle.ts_calendar.proofs.StampLemmas.{int_lt-false, int_lt-true}
 use Rattle.ts_calendar.proofs.ValidLemmas.{joined-valid}
-use Rattle.ts_offset.specs.Grid.{GridPlan, held_start}
-use Rattle.ts_offset.specs.Walk.{IsOnStart}
+use Rattle.ts_offset.specs.Grid.{GridPlan, held_start, IsOnStart}
 use Rattle.ts_offset.specs.declared.shape.Shape.{Shape}
 use Rattle.ts_offset.specs.declared.shape.Shape.TheVariants as shapes
 use Rattle.ts_offset.proofs.OwnLemmas.{from-held}
 use Rattle.ts_irregular.specs.Edit.{element_at, last_of}
-use Rattle.ts_sheets.specs.Placing.{earlier, last_before, next_second, unit_after, place_for, placed}
-use Rattle.ts_sheets.specs.Range.{without_range}
+use Rattle.ts_sheets.specs.Stamped.{earlier, last_before, next_second, unit_after, place_for, placed, without_range}
 use Rattle.ts_command.specs.Form.{IsColumn, HasForm}
 use Rattle.ts_command.specs.declared.command.Command.{Command}
 use Rattle.ts_command.specs.declared.command.Command.TheVariants as commands
 use Rattle.ts_model.specs.declared.kind.Kind.{Kind}
 use Rattle.ts_model.specs.declared.kind.Kind.TheVariants as kinds
-use Rattle.ts_model.specs.Catalogue.{Named, Elements, SeriesKind, Irregular, Regular, Series, Catalogue, old_format, pattern_of, with_plan, calendar_of, calendar_named, shape_of, columns_of, quotas}
+use Rattle.ts_model.specs.Catalogue.{Named, Elements, SeriesKind, Irregular, Regular, Series, Catalogue, old_format, pattern_of, with_plan, calendar_of, calendar_named, shape_of, columns_of, quotas, named, with_named, without, is_used}
 use Rattle.ts_model.specs.Definitions.{limit}
-use Rattle.ts_model.specs.Kinds.{named, with_named, without, is_used}
 use Rattle.ts_answer.specs.Answer.{Answered, Tried, ◌>>=◌, settled, outcome, answer, carried_out, known, wanted, refused_if, unused, within_limit, a_new_name, no_bad_column, beyond_old_format, row_or_mismatch, a_row, row_at, a_place, addressed, on_grid, an_address, reached, within_quota, within_pages, given, a_calendar, with_elements, without_one, create_row_type, drop_definition, create_pattern, turn_pattern, join_patterns, show_pattern, create_calendar, join_calendars, show_calendar, count_starts, find_start, list_starts, create_container, container_usage, create_irregular, create_regular, drop_series, list_series, put_element, put_no_dups, insert_element, update_element, delete_element, delete_range, mark_element, get_element, get_last_element, count_elements, get_first_element, get_nth_element, clip_series, count_clip, clip_counted, join_series, lag_series, aggregate_by, aggregate_range, aggregate_all, running_values, apply_exprs}
-use Rattle.ts_answer.specs.Refusals.{present}
-use Rattle.ts_answer.specs.Rolling.{roll_create, roll_put, roll_clip, roll_drop, without_windows, with_window}
-use Rattle.ts_rolling.specs.Keys.{is_set, window_key, control_key}
-use Rattle.ts_rolling.specs.Sets.{live}
+use Rattle.ts_answer.specs.Reply.{present}
+use Rattle.ts_answer.specs.Elements.{roll_create, roll_put, roll_clip, roll_drop, without_windows, with_window}
+use Rattle.ts_rolling.specs.Sets.{is_set, window_key, control_key, live}
 use Rattle.ts_answer_laws.specs.ReadingLaws.{CanStand}
 use Rattle.ts_offset.specs.Shape.{IsLaidOut}
 use Rattle.ts_answer_laws.specs.SeriesLaws.{OriginsAreOnStarts}

@@ -6,9 +6,9 @@ use Rattle.std.specs.Str.{bytes_eq}
 use Rattle.std.specs.FinMap.{entries, get, insert, remove, len, values, len-remove, get-entries, find}
 use Rattle.std.specs.Ordering.{eq_by_cmp}
 use Rattle.ts_base.specs.Name.{is_name}
-use Rattle.ts_row.specs.RowType.{Heading}
-use Rattle.ts_pattern.specs.Plan.{Plan}
-use Rattle.ts_calendar.specs.Plan.{CalendarPlan}
+use Rattle.ts_row.specs.Row.{Heading}
+use Rattle.ts_pattern.specs.Patterns.{Plan}
+use Rattle.ts_calendar.specs.Calendars.{CalendarPlan}
 use Rattle.ts_calendar.specs.declared.text.PatternPart.{PatternPart}
 use Rattle.ts_calendar.specs.declared.text.PatternPart.TheVariants.{Named as ByName, Own}
 use Rattle.ts_calendar.specs.declared.text.CalendarText.{CalendarText}
@@ -16,10 +16,9 @@ use Rattle.ts_offset.specs.declared.shape.Shape.{Shape}
 use Rattle.ts_offset.specs.declared.shape.Shape.TheVariants as shapes
 use Rattle.ts_model.specs.declared.kind.Kind.{Kind}
 use Rattle.ts_model.specs.declared.kind.Kind.TheVariants as kinds
-use Rattle.ts_model.specs.Catalogue.{Named, name_cmp, Container, Regular, Series, Catalogue, pattern_of, with_plan, calendar_of, shape_of, quotas}
+use Rattle.ts_model.specs.Catalogue.{Named, name_cmp, Container, Regular, Series, Catalogue, pattern_of, with_plan, calendar_of, shape_of, quotas, named, with_named, without, is_named, is_on_calendar, is_used}
 use Rattle.ts_model.specs.Charge.{series_charge, container_charge}
 use Rattle.ts_model.specs.Definitions.{limit}
-use Rattle.ts_model.specs.Kinds.{named, with_named, without, is_named, is_on_calendar, is_used}
 use Rattle.ts_model.proofs.OrderLemmas.{total, same_name}
 use Rattle.ts_catalogue_laws.specs.Catalogue.{IsRowType, IsPattern, IsCalendar, IsContainer, IsCatalogue}
 use Rattle.ts_catalogue_laws.proofs.MapLemmas.{total_of, values_total, got_inserted, got_removed, others_inserted, others_removed, other_key, few_inserted, set_total, had_total, new_total, totals_same}

@@ -11,10 +11,9 @@ use Rattle.ts_row.specs.Row.{Row, fits}
 use Rattle.ts_offset.specs.declared.shape.Shape.{Shape}
 use Rattle.ts_model.specs.declared.kind.Kind.{Kind}
 use Rattle.ts_model.specs.declared.kind.Kind.TheVariants as kinds
-use Rattle.ts_model.specs.Catalogue.{Container, Elements, Series, Catalogue, old_format, shape_of, columns_of, quota_of}
+use Rattle.ts_model.specs.Catalogue.{Container, Elements, Series, Catalogue, old_format, shape_of, columns_of, quota_of, named, with_named}
 use Rattle.ts_model.specs.Charge.{elements_charge, series_charge, container_charge}
 use Rattle.ts_model.specs.Definitions.{limit}
-use Rattle.ts_model.specs.Kinds.{named, with_named}
 use Rattle.ts_model.proofs.OrderLemmas.{total, same_name}
 use Rattle.ts_answer.specs.Elements.{with_elements}
 use Rattle.ts_answer_laws.specs.ReadingLaws.{CanStand}

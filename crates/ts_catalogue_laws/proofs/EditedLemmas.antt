@@ -10,15 +10,14 @@ use Rattle.std.specs.FinMap.{entries, get, insert, get-entries, int_cmp-IsAntisy
 use Rattle.jiff_core.proofs.SignedLemmas.{signed_arith, int_div_euclid-parts}
 use Rattle.ts_base.specs.declared.refusal.Refusal.TheVariants as refusals
 use Rattle.ts_row.specs.declared.value.Literal.{Literal}
-use Rattle.ts_row.specs.Row.{Row, marked}
-use Rattle.ts_row.specs.Element.{Element}
+use Rattle.ts_row.specs.Row.{Row, marked, Element}
 use Rattle.ts_calendar.proofs.StampLemmas.{int_lt_yes, int_lt-false, int_lt-true}
 use Rattle.ts_offset.specs.Grid.{GridPlan, held_start}
 use Rattle.ts_offset.specs.declared.shape.Shape.{Shape}
 use Rattle.ts_offset.specs.declared.shape.Shape.TheVariants as shapes
 use Rattle.ts_offset.proofs.OwnLemmas.{from-held}
 use Rattle.ts_irregular.specs.Edit.{last_of}
-use Rattle.ts_sheets.specs.Placing.{earlier, last_before, next_second, unit_after, place_for}
+use Rattle.ts_sheets.specs.Stamped.{earlier, last_before, next_second, unit_after, place_for}
 use Rattle.ts_command.specs.declared.command.Command.{Command}
 use Rattle.ts_command.specs.declared.command.Command.TheVariants as commands
 use Rattle.ts_model.specs.declared.kind.Kind.TheVariants as kinds

@@ -11,10 +11,9 @@ use Rattle.std.specs.Ordering.{eq_by_cmp, int_cmp, is_eq}
 use Rattle.std.specs.FinMap.{entries, find, int_cmp-IsAntisymmetric}
 use Rattle.ts_base.specs.Moment.{IsStamp}
 use Rattle.ts_base.specs.declared.refusal.Refusal.TheVariants as refusals
-use Rattle.ts_row.specs.Row.{Row, visible}
-use Rattle.ts_row.specs.Element.{Element}
+use Rattle.ts_row.specs.Row.{Row, visible, Element}
 use Rattle.ts_pattern.specs.declared.junction.Junction.{Junction}
-use Rattle.ts_calendar.specs.Intervals.{IsLaid}
+use Rattle.ts_calendar.specs.Calendars.{IsLaid}
 use Rattle.ts_calendar.proofs.StampLemmas.{int_lt_no, int_lt-false}
 use Rattle.ts_offset.specs.Grid.{GridPlan, held_start}
 use Rattle.ts_offset.specs.declared.shape.Shape.{Shape}

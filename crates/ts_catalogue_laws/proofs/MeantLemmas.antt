@@ -8,35 +8,27 @@ use Rattle.std.specs.FinMap.{get, get-from_entries, len, int_cmp-IsAntisymmetric
 use Rattle.ts_base.specs.Moment.{IsStamp}
 use Rattle.ts_base.specs.Name.{is_key}
 use Rattle.ts_row.specs.declared.kind.Column.{Column}
-use Rattle.ts_row.specs.RowType.{Heading}
-use Rattle.ts_row.specs.Row.{Row, fits, fits as fits_row}
-use Rattle.ts_row.specs.Element.{Element}
-use Rattle.ts_pattern.specs.Plan.{Plan}
+use Rattle.ts_row.specs.Row.{Heading, Row, fits, fits as fits_row, Element}
+use Rattle.ts_pattern.specs.Patterns.{Plan}
 use Rattle.ts_calendar.specs.declared.text.CalendarText.{CalendarText}
 use Rattle.ts_calendar.proofs.StampLemmas.{int_lt-false}
 use Rattle.ts_offset.specs.declared.shape.Shape.{Shape}
 use Rattle.ts_offset.specs.declared.shape.Shape.TheVariants.{Irregular, Regular}
-use Rattle.ts_offset.specs.Grid.{GridPlan, stamp_of}
-use Rattle.ts_offset.specs.Walk.{IsOnStart, on_starts}
+use Rattle.ts_offset.specs.Grid.{GridPlan, stamp_of, IsOnStart, on_starts}
 use Rattle.ts_offset.proofs.ListedLemmas.{start-listed}
 use Rattle.ts_offset.proofs.StartLemmas.{on-line}
-use Rattle.ts_cells.specs.Cell.{IsElement, page_room}
-use Rattle.ts_cells.specs.IrregularPage.{AreElements}
-use Rattle.ts_regular.specs.Cell.{Cell}
-use Rattle.ts_regular.specs.Offsets.{OffsetElement, elements_from}
-use Rattle.ts_regular.specs.RegularPage.{AreCells}
+use Rattle.ts_cells.specs.IrregularPage.{IsElement, page_room, AreElements}
+use Rattle.ts_regular.specs.RegularPage.{Cell, OffsetElement, elements_from, AreCells}
 use Rattle.ts_sheets.specs.Stamped.{stamped_one}
 use Rattle.ts_model.specs.declared.kind.Kind.{Kind}
 use Rattle.ts_model.specs.declared.kind.Kind.TheVariants as kinds
 use Rattle.ts_model.specs.declared.def.Def.{Def}
-use Rattle.ts_model.specs.Catalogue.{Container, Series, Catalogue, calendar_of, shape_of as shape_by_name, columns_of}
+use Rattle.ts_model.specs.Catalogue.{Container, Series, Catalogue, calendar_of, shape_of as shape_by_name, columns_of, In, named}
 use Rattle.ts_model.specs.Charge.{container_charge}
 use Rattle.ts_model.specs.Format.{KeepsFormat}
-use Rattle.ts_model.specs.Kinds.{In, named}
 use Rattle.ts_model.specs.Definitions.{Definitions, RowTypeDef, CalendarDef, SeriesDef, KindDef, to_def, limit, slots, table_of, at_slot, vacant_slot}
-use Rattle.ts_layout.specs.Limits.{IsDef, IsSlotOf}
+use Rattle.ts_layout.specs.Meaning.{IsDef, IsSlotOf, ElementPage, Free, Cells, Layout, element_page, elements_on, elements_of, elements_at, heading_at, heading_of_container, grid_in, shape_of, shape_at, HoldsLayout, IsSound, Means, value_of, charge_of_container, series_of, container_of, text_of, catalogue_of}
 use Rattle.ts_layout.specs.Sheets.{Sheet, FillSheet}
-use Rattle.ts_layout.specs.Meaning.{ElementPage, Free, Cells, Layout, element_page, elements_on, elements_of, elements_at, heading_at, heading_of_container, grid_in, shape_of, shape_at, HoldsLayout, IsSound, Means, value_of, charge_of_container, series_of, container_of, text_of, catalogue_of}
 use Rattle.ts_layout.specs.Chains.{AreFilled, IsFilledFor}
 use Rattle.ts_layout.specs.Lookup.{IsNamedAt}
 use Rattle.ts_layout.specs.Laws.{NamesStandInSlots, ReferencesAreNames, SlotsAreCounted}

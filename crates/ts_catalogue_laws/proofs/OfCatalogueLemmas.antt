@@ -2,13 +2,13 @@
 use Rattle.std.proofs.Common.{◌≡◌, ℕ, ℤ, Option, Some, None, option_map, option_and_then, Ok, Err, List, refl, sym, ap, ◌∙◌}
 use Rattle.std.specs.FinMap.{get}
 use Rattle.ts_base.specs.declared.refusal.Refusal.TheVariants as refusals
-use Rattle.ts_row.specs.Element.{Element}
-use Rattle.ts_calendar.specs.Plan.{CalendarPlan}
+use Rattle.ts_row.specs.Row.{Element}
+use Rattle.ts_calendar.specs.Calendars.{CalendarPlan}
 use Rattle.ts_offset.specs.Grid.{GridPlan}
 use Rattle.ts_offset.specs.declared.shape.Shape.{Shape}
 use Rattle.ts_offset.specs.declared.shape.Shape.TheVariants as shapes
-use Rattle.ts_expr.specs.Grammar.{read_list}
-use Rattle.ts_combine.specs.Lag.{lagged}
+use Rattle.ts_expr.specs.Aggregates.{read_list}
+use Rattle.ts_combine.specs.Combine.{lagged}
 use Rattle.ts_command.specs.declared.command.Command.TheVariants as commands
 use Rattle.ts_model.specs.Catalogue.{Container, SeriesKind, Irregular, Regular, Series, Catalogue, calendar_named, shape_of}
 use Rattle.ts_answer.specs.Answer.{Answered, Tried, outcome, carried_out, wanted, known, a_calendar, join_calendars, create_regular, aggregate_by, lag_series}

@@ -6,8 +6,7 @@ use Rattle.std.specs.Cmp.{int_cmp_total, int_ranks}
 use Rattle.std.specs.declared.cmp.Ordering.{Ordering}
 use Rattle.std.specs.declared.cmp.Ordering.TheVariants.{Less}
 use Rattle.std.specs.FinMap.{entries, int_cmp-IsAntisymmetric}
-use Rattle.ts_model.specs.Catalogue.{Elements, Catalogue}
-use Rattle.ts_model.specs.Kinds.{named}
+use Rattle.ts_model.specs.Catalogue.{Elements, Catalogue, named}
 use Rattle.ts_model.specs.declared.kind.Kind.{Kind}
 use Rattle.ts_model.proofs.OrderLemmas.{total, same_name}
 use Rattle.ts_catalogue_laws.specs.Catalogue.{AreOnce}

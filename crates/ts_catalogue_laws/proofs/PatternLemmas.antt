@@ -6,18 +6,13 @@ use Rattle.std.specs.Prelude.{Result, int_lt}
 use Rattle.std.specs.Int.{int_max}
 use Rattle.std.proofs.lemmas.Bool.{and_parts}
 use Rattle.std.proofs.lemmas.Bool.Decides.{nat_tests}
-use Rattle.ts_base.specs.Moment.{IsStamp}
-use Rattle.ts_base.specs.StampText.{number_of}
+use Rattle.ts_base.specs.Moment.{IsStamp, number_of}
 use Rattle.ts_base.specs.declared.unit.Unit as unit
 use Rattle.ts_base.specs.declared.refusal.Refusal.{Refusal}
 use Rattle.ts_base.specs.declared.refusal.Refusal.TheVariants.{AllOff, UnitMismatch, NotAligned, PastEnd, PatternTooLong}
 use Rattle.ts_pattern.specs.declared.run.Run.{Run}
 use Rattle.ts_pattern.specs.declared.junction.Junction.{Junction}
-use Rattle.ts_pattern.specs.Plan.{Plan}
-use Rattle.ts_pattern.specs.Runs.{total, flag_at, runs_of, turned, is_pattern, has_on}
-use Rattle.ts_pattern.specs.Units.{smaller_unit}
-use Rattle.ts_pattern.specs.Algebra.{plan_of_flags, joined_flag, joined_length, joined_in, joined_plan}
-use Rattle.ts_pattern.specs.Grammar.{is_count, written_plan, plan_of_written, plan_or_place, read_plan}
+use Rattle.ts_pattern.specs.Patterns.{Plan, total, flag_at, runs_of, turned, is_pattern, has_on, smaller_unit, plan_of_flags, joined_flag, joined_length, joined_in, joined_plan, is_count, written_plan, plan_of_written, plan_or_place, read_plan}
 use Rattle.ts_pattern.specs.Spelling.{Word, run_of, AreRuns}
 use Rattle.ts_pattern.proofs.RunLemmas.{total-cons}
 use Rattle.ts_pattern.proofs.GrowLemmas.{is_pattern-runs_of}
@@ -27,10 +22,7 @@ use Rattle.ts_pattern.proofs.PatternTextLemmas.{found as pattern_found}
 use Rattle.ts_calendar.specs.declared.text.PatternPart.{PatternPart}
 use Rattle.ts_calendar.specs.declared.text.PatternPart.TheVariants.{Named, Own}
 use Rattle.ts_calendar.specs.declared.text.CalendarText.{CalendarText}
-use Rattle.ts_calendar.specs.Plan.{CalendarPlan}
-use Rattle.ts_calendar.specs.Intervals.{IsLaid, start_in}
-use Rattle.ts_calendar.specs.Calendar.{steps_between, first_step, found_or, with_pattern, joined_calendar}
-use Rattle.ts_calendar.specs.Text.{calendar_text, written_calendar, own_part, part_of_written, with_part, calendar_or_place, read_calendar}
+use Rattle.ts_calendar.specs.Calendars.{CalendarPlan, IsLaid, start_in, steps_between, first_step, found_or, with_pattern, joined_calendar, calendar_text, written_calendar, own_part, part_of_written, with_part, calendar_or_place, read_calendar}
 use Rattle.ts_calendar.specs.Spelling.{IsPart, IsCalendarText}
 use Rattle.ts_calendar.proofs.TextLemmas.{found as calendar_found}
 use Rattle.ts_calendar.proofs.ValidLemmas.{early-smaller}

@@ -8,11 +8,9 @@ use Rattle.ts_command.specs.declared.boundary.Boundary.TheVariants.{Opens, Commi
 use Rattle.ts_command.specs.declared.command.Command.{Command}
 use Rattle.ts_model.specs.declared.kind.Kind.{Kind}
 use Rattle.ts_model.specs.declared.kind.Kind.TheVariants as kinds
-use Rattle.ts_model.specs.Catalogue.{Container, Catalogue, name_cmp, empty_catalogue, quotas}
+use Rattle.ts_model.specs.Catalogue.{Container, Catalogue, name_cmp, empty_catalogue, quotas, In, named}
 use Rattle.ts_model.specs.Definitions.{limit}
-use Rattle.ts_model.specs.Kinds.{In, named}
-use Rattle.ts_answer.specs.Answer.{Answered, Tried, ◌>>=◌, settled, outcome, answer}
-use Rattle.ts_answer.specs.State.{State, Transaction, begun, outside, inside, carried_out_in, run_outcome, run_answer}
+use Rattle.ts_answer.specs.Answer.{Answered, Tried, ◌>>=◌, settled, outcome, answer, State, Transaction, begun, outside, inside, carried_out_in, run_outcome, run_answer}
 use Rattle.ts_catalogue_laws.specs.Catalogue.{IsCatalogue}
 use Rattle.ts_catalogue_laws.specs.Commands.{IsFormed}
 use Rattle.ts_catalogue_laws.specs.Laws.{AnswersKeepCatalogues, EmptyStoresAreCatalogues, HasCatalogues, RunsKeepCatalogues}

@@ -4,16 +4,15 @@ use Rattle.std.specs.Option.{IsSome}
 use Rattle.std.specs.Str.{bytes_eq}
 use Rattle.std.specs.Ordering.{eq_by_cmp}
 use Rattle.std.specs.FinMap.{entries, get, remove}
-use Rattle.ts_row.specs.RowType.{Heading}
+use Rattle.ts_row.specs.Row.{Heading}
 use Rattle.ts_row.specs.declared.kind.Column.{Column}
-use Rattle.ts_calendar.specs.Plan.{CalendarPlan}
+use Rattle.ts_calendar.specs.Calendars.{CalendarPlan}
 use Rattle.ts_calendar.specs.declared.text.CalendarText.{CalendarText}
 use Rattle.ts_offset.specs.declared.shape.Shape.{Shape}
 use Rattle.ts_offset.specs.declared.shape.Shape.TheVariants as shapes
-use Rattle.ts_model.specs.Catalogue.{Named, name_cmp, Elements, Container, SeriesKind, Irregular, Regular, Series, Catalogue, calendar_of, shape_of, columns_of, quota_of}
+use Rattle.ts_model.specs.Catalogue.{Named, name_cmp, Elements, Container, SeriesKind, Irregular, Regular, Series, Catalogue, calendar_of, shape_of, columns_of, quota_of, with_named}
 use Rattle.ts_model.specs.Charge.{page_elements, elements_charge, series_charge, container_charge}
 use Rattle.ts_model.specs.declared.kind.Kind.TheVariants as kinds
-use Rattle.ts_model.specs.Kinds.{with_named}
 use Rattle.ts_model.proofs.OrderLemmas.{total, same_name, eq_ties, ties-refl, ties-same}
 use Rattle.ts_catalogue_laws.specs.Catalogue.{IsContainer, IsSeries, IsCatalogue}
 use Rattle.ts_catalogue_laws.proofs.MapLemmas.{total_of, filter_total, totals_same, set_total, had_total, new_total}

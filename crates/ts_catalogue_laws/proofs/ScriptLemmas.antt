@@ -6,14 +6,13 @@ use Rattle.std.proofs.lemmas.Bool.Decides.{nat_tests}
 use Rattle.ts_base.specs.Moment.{IsStamp}
 use Rattle.ts_text.specs.Phrase.{Read, outcome}
 use Rattle.ts_text.specs.Spelling.{Lexeme}
-use Rattle.ts_tokens.specs.Text.{said}
+use Rattle.ts_tokens.specs.Tokens.{said}
 use Rattle.ts_items.specs.Items.{Item, Statement, TooLong, Unended, quotes_match, all_blank, after, items_from, items, is_unended}
 use Rattle.ts_command.specs.declared.command.Command.{Command}
 use Rattle.ts_command.specs.declared.command.Command.TheVariants as commands
-use Rattle.ts_command.specs.Grammar.{a_command, command_of}
-use Rattle.ts_command.specs.Script.{Request, or_syntax, request_of, requests, last_request}
+use Rattle.ts_command.specs.Grammar.{a_command, command_of, Request, or_syntax, request_of, requests, last_request}
 use Rattle.ts_command.proofs.CommandLemmas.{command-form}
-use Rattle.ts_answer.specs.State.{State, run_answer}
+use Rattle.ts_answer.specs.Answer.{State, run_answer}
 use Rattle.ts_answer_laws.specs.TransactionLaws.{behind}
 use Rattle.ts_statement_laws.specs.Statements.{Argument, NameOf, KeyOf, SetOf, StampOf, TextOf, WholeOf, WordOf, StampColumnOf, ColumnOf, ValueOf, Call, statement_of, IsArgument, AreArguments, AreStatement}
 use Rattle.ts_statement_laws.specs.Laws.{StatementsAreTokens}

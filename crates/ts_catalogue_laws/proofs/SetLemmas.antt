@@ -8,11 +8,9 @@ use Rattle.std.proofs.lemmas.Int.{ints}
 use Rattle.ts_base.specs.Name.{is_key}
 use Rattle.ts_base.specs.declared.refusal.Refusal.{Refusal}
 use Rattle.ts_base.specs.declared.refusal.Refusal.TheVariants.{BeforeOrigin, WindowGone}
-use Rattle.ts_calendar.specs.First.{near_count}
-use Rattle.ts_offset.specs.Walk.{numbers_from, on_start, on_starts}
-use Rattle.ts_offset.specs.Grid.{GridPlan, held_start, starts_before, offset_at, offset_of}
-use Rattle.ts_rolling.specs.Keys.{most_windows, is_set, window_key, control_key}
-use Rattle.ts_rolling.specs.Plan.{Planned, a_plan, greatest, going, is_gone, plan_for, plan_at, planned}
+use Rattle.ts_calendar.specs.Calendars.{near_count}
+use Rattle.ts_offset.specs.Grid.{numbers_from, on_start, on_starts, GridPlan, held_start, starts_before, offset_at, offset_of}
+use Rattle.ts_rolling.specs.Sets.{most_windows, is_set, window_key, control_key, Planned, a_plan, greatest, going, is_gone, plan_for, plan_at, planned}
 use Rattle.ts_rolling.proofs.KeyLemmas.{is_key-numbered}
 
 -- lists of which some are left out

@@ -3,17 +3,12 @@ use Rattle.std.proofs.Common.{◌≡◌, ℕ, ◌<◌, ◌≤◌, nat_lt, Bool, 
 use Rattle.std.proofs.lemmas.Bool.Decides.{nat_tests}
 use Rattle.jiff_core.specs.Calendar.{IsCivilDate, days_from_civil, days_in_month}
 use Rattle.jiff_core.proofs.SignedLemmas.{signed_arith}
-use Rattle.ts_base.specs.Moment.{IsStamp, Moment, is_moment, day_units, units_of, stamp_at}
-use Rattle.ts_base.specs.StampText.{has_stamp_form, moment_in, read_stamp}
+use Rattle.ts_base.specs.Moment.{IsStamp, Moment, is_moment, day_units, units_of, stamp_at, has_stamp_form, moment_in, read_stamp, day_of_month}
 use Rattle.ts_base.proofs.CivilLemmas.{days_bounds}
-use Rattle.ts_calendar.specs.Plan.{CalendarPlan}
-use Rattle.ts_calendar.specs.Calendar.{is_late, is_apart, IsValid}
-use Rattle.ts_calendar.specs.Intervals.{IsLaid}
-use Rattle.ts_offset.specs.Walk.{IsOnStart}
+use Rattle.ts_calendar.specs.Calendars.{CalendarPlan, is_late, is_apart, IsValid, IsLaid}
+use Rattle.ts_offset.specs.Grid.{IsOnStart}
 use Rattle.ts_offset.proofs.StartLemmas.{on-line}
-use Rattle.ts_base.specs.Months.{day_of_month}
-use Rattle.ts_pattern.specs.Units.{is_monthly}
-use Rattle.ts_pattern.specs.Runs.{has_on}
+use Rattle.ts_pattern.specs.Patterns.{is_monthly, has_on}
 use Rattle.ts_base.specs.declared.refusal.Refusal.TheVariants as refusals
 
 units_within : (day : ℤ) (clock : ℕ) → negsuc 719_161 ≤ℤ day → day ≤ℤ pos 2_932_896 → clock < 8_640_000_000 → IsStamp (day *ℤ pos 8_640_000_000 +ℤ pos clock)

@@ -12,24 +12,18 @@ use Rattle.std.specs.FinMap.{entries, find, get, get-entries, get-from_entries, 
 use Rattle.ts_base.specs.Moment.{IsStamp}
 use Rattle.ts_base.specs.declared.unit.Unit as unit
 use Rattle.ts_base.specs.declared.refusal.Refusal.{Refusal}
-use Rattle.ts_row.specs.Row.{Row}
-use Rattle.ts_row.specs.Element.{Element}
+use Rattle.ts_row.specs.Row.{Row, Element}
 use Rattle.ts_pattern.specs.declared.junction.Junction.{Junction}
 use Rattle.ts_pattern.specs.declared.junction.Junction.TheVariants.{And, Or}
-use Rattle.ts_pattern.specs.Runs.{flag}
-use Rattle.ts_pattern.specs.Units.{smaller_unit}
+use Rattle.ts_pattern.specs.Patterns.{flag, smaller_unit}
 use Rattle.ts_pattern.proofs.RunLemmas.{lt_yes}
-use Rattle.ts_calendar.specs.Plan.{CalendarPlan}
-use Rattle.ts_calendar.specs.Calendar.{common_grid}
-use Rattle.ts_calendar.specs.Intervals.{IsLaid, start_in, start_at, starts_from}
+use Rattle.ts_calendar.specs.Calendars.{CalendarPlan, common_grid, IsLaid, start_in, start_at, starts_from}
 use Rattle.ts_calendar.specs.declared.grid.CommonGrid.{CommonGrid}
 use Rattle.ts_calendar.proofs.JoinedLemmas.{grid-parts}
 use Rattle.ts_calendar.proofs.LawLemmas.{steps-lead}
 use Rattle.ts_calendar.proofs.StampLemmas.{int_lt_no, int_lt-false}
 use Rattle.ts_calendar.proofs.ValidLemmas.{early-smaller}
-use Rattle.ts_offset.specs.Walk.{IsOnStart, on_starts}
-use Rattle.ts_offset.specs.Counting.{starts_between}
-use Rattle.ts_offset.specs.Grid.{GridPlan, held_start}
+use Rattle.ts_offset.specs.Grid.{IsOnStart, on_starts, starts_between, GridPlan, held_start}
 use Rattle.ts_offset.specs.declared.shape.Shape.{Shape}
 use Rattle.ts_offset.specs.declared.shape.Shape.TheVariants as shapes
 use Rattle.ts_offset.proofs.ListedLemmas.{listed-start, start-listed, listed-rise}

@@ -7,23 +7,19 @@ use Rattle.std.specs.declared.cmp.Ordering.TheVariants.{Less}
 use Rattle.ts_base.specs.Name.{is_name, is_key}
 use Rattle.ts_base.specs.Moment.{IsStamp}
 use Rattle.ts_row.specs.declared.kind.Column.{Column}
-use Rattle.ts_row.specs.RowType.{Heading, is_row_type, has_long_decimal}
-use Rattle.ts_row.specs.Row.{Row, fits}
-use Rattle.ts_page.specs.Volume.{most_element_pages}
-use Rattle.ts_pattern.specs.Plan.{Plan}
-use Rattle.ts_pattern.specs.Runs.{is_pattern}
-use Rattle.ts_calendar.specs.Plan.{CalendarPlan}
-use Rattle.ts_calendar.specs.Calendar.{IsValid}
+use Rattle.ts_row.specs.Row.{Heading, is_row_type, has_long_decimal, Row, fits}
+use Rattle.ts_page.specs.Pages.{most_element_pages}
+use Rattle.ts_pattern.specs.Patterns.{Plan, is_pattern}
+use Rattle.ts_calendar.specs.Calendars.{CalendarPlan, IsValid}
 use Rattle.ts_calendar.specs.declared.text.CalendarText.{CalendarText}
 use Rattle.ts_offset.specs.declared.shape.Shape.{Shape}
 use Rattle.ts_offset.specs.declared.shape.Shape.TheVariants as shapes
-use Rattle.ts_offset.specs.Walk.{IsOnStart}
+use Rattle.ts_offset.specs.Grid.{IsOnStart}
 use Rattle.ts_model.specs.declared.kind.Kind.{Kind}
 use Rattle.ts_model.specs.Catalogue.{Named, name_cmp, Container, Elements, Series, Catalogue, old_format, calendar_of}
-use Rattle.ts_model.specs.Catalogue.{shape_of, columns_of, quotas}
+use Rattle.ts_model.specs.Catalogue.{shape_of, columns_of, quotas, named}
 use Rattle.ts_model.specs.Charge.{container_charge}
 use Rattle.ts_model.specs.Definitions.{IsFormat, limit}
-use Rattle.ts_model.specs.Kinds.{named}
 use Rattle.ts_answer_laws.specs.ReadingLaws.{CanStand}
 
 -- each name is before the next one, so none stands twice

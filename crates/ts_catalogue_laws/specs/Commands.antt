@@ -4,7 +4,7 @@ use Rattle.ts_base.specs.Moment.{IsStamp}
 use Rattle.ts_command.specs.declared.command.Command.{Command}
 use Rattle.ts_command.specs.declared.command.Command.TheVariants as commands
 use Rattle.ts_command.specs.Form.{HasForm}
-use Rattle.ts_command.specs.Script.{Request}
+use Rattle.ts_command.specs.Grammar.{Request}
 
 -- each stamp that a command names is one
 abbrev pub NamesStamps : Command → Type 0

@@ -3,13 +3,11 @@ use Rattle.std.specs.Prelude.{◌≡◌, ℕ, ℤ, ◌≤ℤ◌, ◌<ℤ◌, tru
 use Rattle.std.specs.Prelude.{Contains}
 use Rattle.std.specs.FinMap.{get}
 use Rattle.ts_base.specs.declared.unit.Unit as unit
-use Rattle.ts_row.specs.Row.{Row, visible}
-use Rattle.ts_row.specs.Element.{Element}
+use Rattle.ts_row.specs.Row.{Row, visible, Element}
 use Rattle.ts_pattern.specs.declared.junction.Junction.{Junction}
 use Rattle.ts_pattern.specs.declared.junction.Junction.TheVariants.{And, Or}
-use Rattle.ts_pattern.specs.Units.{smaller_unit}
-use Rattle.ts_calendar.specs.Plan.{CalendarPlan}
-use Rattle.ts_calendar.specs.Intervals.{start_in}
+use Rattle.ts_pattern.specs.Patterns.{smaller_unit}
+use Rattle.ts_calendar.specs.Calendars.{CalendarPlan, start_in}
 use Rattle.ts_offset.specs.Grid.{GridPlan, IsHeldFrom}
 use Rattle.ts_offset.specs.declared.shape.Shape.TheVariants as shapes
 use Rattle.ts_combine.specs.Combine.{values_or_nulls, is_kept}

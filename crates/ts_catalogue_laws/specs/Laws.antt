@@ -1,13 +1,12 @@
 -- What the laws of catalogues say.
 use Rattle.std.specs.Prelude.{ℕ, ◌≤◌, List, IfSome}
-use Rattle.ts_page.specs.Volume.{most_element_pages}
-use Rattle.ts_command.specs.Script.{Request}
+use Rattle.ts_page.specs.Pages.{most_element_pages}
+use Rattle.ts_command.specs.Grammar.{Request}
 use Rattle.ts_model.specs.Catalogue.{Catalogue, empty_catalogue}
 use Rattle.ts_model.specs.Definitions.{IsFormat}
 use Rattle.ts_layout.specs.Meaning.{Means}
 use Rattle.ts_volume.specs.Volume.{MeansCatalogue}
-use Rattle.ts_answer.specs.Answer.{answer}
-use Rattle.ts_answer.specs.State.{State, run_answer}
+use Rattle.ts_answer.specs.Answer.{answer, State, run_answer}
 use Rattle.ts_catalogue_laws.specs.Catalogue.{IsCatalogue}
 use Rattle.ts_catalogue_laws.specs.Commands.{IsFormed}
 

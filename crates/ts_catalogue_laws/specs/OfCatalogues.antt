@@ -4,9 +4,8 @@ use Rattle.std.specs.Prelude.{unsigned_abs}
 use Rattle.std.specs.FinMap.{get}
 use Rattle.ts_base.specs.Moment.{IsStamp}
 use Rattle.ts_base.specs.declared.refusal.Refusal.TheVariants as refusals
-use Rattle.ts_row.specs.RowType.{Heading}
-use Rattle.ts_calendar.specs.Plan.{CalendarPlan}
-use Rattle.ts_calendar.specs.Intervals.{IsOnStamp}
+use Rattle.ts_row.specs.Row.{Heading}
+use Rattle.ts_calendar.specs.Calendars.{CalendarPlan, IsOnStamp}
 use Rattle.ts_offset.specs.Grid.{GridPlan, IsHeldFrom, IsHeldBefore}
 use Rattle.ts_offset.specs.declared.shape.Shape.{Shape}
 use Rattle.ts_offset.specs.declared.shape.Shape.TheVariants as shapes

@@ -1,8 +1,8 @@
 -- Whatever script is read, its commands are formed, and so what a run of it is at has catalogues.
 use Rattle.std.specs.Prelude.{ℕ, List, ◌++◌}
 use Rattle.std.specs.List.{AllByRecursion}
-use Rattle.ts_command.specs.Script.{requests, last_request}
-use Rattle.ts_answer.specs.State.{State}
+use Rattle.ts_command.specs.Grammar.{requests, last_request}
+use Rattle.ts_answer.specs.Answer.{State}
 use Rattle.ts_answer_laws.specs.TransactionLaws.{behind}
 use Rattle.ts_catalogue_laws.specs.Commands.{IsFormed}
 use Rattle.ts_catalogue_laws.specs.Laws.{HasCatalogues}

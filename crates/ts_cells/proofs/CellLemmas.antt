@@ -11,7 +11,7 @@ use Rattle.ts_base.specs.Moment.{IsStamp, stamp_if_any}
 use Rattle.ts_row.specs.declared.kind.Column.{Column}
 use Rattle.ts_row.specs.Row.{Row}
 use Rattle.ts_row.specs.Encoding.{row_bytes, AreRowBytes}
-use Rattle.ts_cells.specs.Cell.{IsElement, stamp_bytes, cell_bytes, cell_size}
+use Rattle.ts_cells.specs.IrregularPage.{IsElement, stamp_bytes, cell_bytes, cell_size}
 
 -- the units that the bytes of a stamp are
 pub units_back : (z : ℤ) → IsStamp z → cast_signed w64 (from_be_bytes w64 (stamp_bytes z)) ≡ z

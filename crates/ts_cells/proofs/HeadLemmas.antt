@@ -7,11 +7,10 @@ use Rattle.std.proofs.lemmas.List.{take-append-drop}
 use Rattle.std.proofs.Math.Seq.{take-append_seam, drop-append_seam}
 use Rattle.std.proofs.Math.Nat.{mul-div-le, mul-le-mul_left, div-le_of_le-mul}
 use Rattle.ts_page.specs.declared.page.Head.TheVariants.{Free, Regular, Irregular}
-use Rattle.ts_page.specs.Head.{head_of, head_bytes, are_zero}
+use Rattle.ts_page.specs.Pages.{head_of, head_bytes, are_zero}
 use Rattle.ts_page.proofs.HeadLemmas.{head_of-written}
 use Rattle.ts_row.specs.declared.kind.Column.{Column}
-use Rattle.ts_cells.specs.Cell.{Element, cell_size, page_room}
-use Rattle.ts_cells.specs.IrregularPage.{AreElements, AreInOrder, cells_bytes, behind_head, irregular_page, irregular_count, IsIrregularPage}
+use Rattle.ts_cells.specs.IrregularPage.{Element, cell_size, page_room, AreElements, AreInOrder, cells_bytes, behind_head, irregular_page, irregular_count, IsIrregularPage}
 use Rattle.ts_cells.proofs.PageLemmas.{length-cells_bytes}
 
 pub zero_is : (bytes : List ℕ) → are_zero bytes ≡ true → bytes ≡ replicate (length bytes) 0

@@ -5,8 +5,7 @@ use Rattle.std.proofs.lemmas.List.Concat.{flat_map-cons}
 use Rattle.std.proofs.Math.Seq.{take-add, take-length}
 use Rattle.ts_row.specs.declared.kind.Column.{Column}
 use Rattle.ts_row.proofs.RowBytesLemmas.{valid}
-use Rattle.ts_cells.specs.Cell.{Element, has_hidden, IsElement, cell_bytes, cell_size}
-use Rattle.ts_cells.specs.IrregularPage.{AreElements, AreRising, AreInOrder, cells_bytes, first_stamp, last_stamp, HasEnds, HasExtent}
+use Rattle.ts_cells.specs.IrregularPage.{Element, has_hidden, IsElement, cell_bytes, cell_size, AreElements, AreRising, AreInOrder, cells_bytes, first_stamp, last_stamp, HasEnds, HasExtent}
 use Rattle.ts_cells.specs.declared.extent.Extent.{Extent}
 use Rattle.ts_cells.proofs.PageLemmas.{AreElements-more, AreElements-front, AreRising-more, AreRising-at, last_stamp-more, cells_bytes-more, same_cells, cell_one, cut}
 

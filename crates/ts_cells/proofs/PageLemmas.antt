@@ -9,8 +9,7 @@ use Rattle.ts_row.specs.declared.kind.Column.{Column}
 use Rattle.ts_row.specs.Encoding.{row_bytes}
 use Rattle.ts_row.specs.Decoding.{row_in}
 use Rattle.ts_row.proofs.RowBytesLemmas.{valid, row_in-row_bytes, length-row_bytes}
-use Rattle.ts_cells.specs.Cell.{Element, IsElement, stamp_bytes, cell_bytes, cell_size}
-use Rattle.ts_cells.specs.IrregularPage.{AreElements, AreRising, cells_bytes, last_stamp}
+use Rattle.ts_cells.specs.IrregularPage.{Element, IsElement, stamp_bytes, cell_bytes, cell_size, AreElements, AreRising, cells_bytes, last_stamp}
 use Rattle.ts_cells.proofs.CellLemmas.{units_back}
 
 -- a cell has its size

@@ -1,9 +1,8 @@
 // A cell: a byte 1, the stamp and the row of an element.
 ghost use Rattle.std.specs.Prelude.{◌≡◌, ◌≢◌, ◌+◌, ◌≤◌, IsTrue, IfSome, IfNone, length, ◌∷◌};
 ghost use Rattle.std.specs.Int.{w64, from_be_bytes, cast_signed};
-ghost use Rattle.ts_row.specs.RowType.{width_of};
-ghost use Rattle.ts_row.specs.Row.{Row as TheRow, fits, marked};
-ghost use Rattle.ts_cells.specs.Cell.{Element, IsElement, stamp_bytes, cell_bytes, cell_size, page_room};
+ghost use Rattle.ts_row.specs.Row.{width_of, Row as TheRow, fits, marked};
+ghost use Rattle.ts_cells.specs.IrregularPage.{Element, IsElement, stamp_bytes, cell_bytes, cell_size, page_room};
 
 use ts_base::Stamp;
 use ts_row::{Row, RowType};

@@ -1,9 +1,8 @@
 // A page judged by its bytes: how many elements it has, from when to when, and whether some are hidden.
 ghost use Rattle.std.specs.Prelude.{◌≡◌, ◌↔◌, ◌*◌, ◌≤◌, IsTrue, IfSome, IfNone, Some, List, ℕ, length};
-ghost use Rattle.ts_page.specs.Head.{head_of};
-ghost use Rattle.ts_cells.specs.Cell.{Element, cell_size, page_room};
-ghost use Rattle.ts_cells.specs.IrregularPage.{IsIrregularPage, AreInOrder, HasExtent, cells_bytes, behind_head};
-ghost use Rattle.ts_cells.specs.IrregularPage.{irregular_count};
+ghost use Rattle.ts_page.specs.Pages.{head_of};
+ghost use Rattle.ts_cells.specs.IrregularPage.{Element, cell_size, page_room, IsIrregularPage, AreInOrder, HasExtent};
+ghost use Rattle.ts_cells.specs.IrregularPage.{cells_bytes, behind_head, irregular_count};
 
 use crate::cell::{cell_size, is_hidden_cell, page_room, stamp_of_cell};
 use ts_base::Stamp;

@@ -3,12 +3,10 @@ use Rattle.std.proofs.Common.{◌≡◌, ℕ, suc, ◌+◌, ◌≤◌, ℤ, ◌�
 use Rattle.std.proofs.Math.Seq.{get_or-append_seam}
 use Rattle.ts_space.specs.declared.place.Place.{Place}
 use Rattle.ts_space.specs.Place.{AreAbove, IsRising}
-use Rattle.ts_page.specs.Head.{zero_page}
-use Rattle.ts_page.specs.Pages.{Contents, EqualPages, with_page}
+use Rattle.ts_page.specs.Pages.{zero_page, Contents, EqualPages, with_page}
 use Rattle.ts_row.specs.declared.kind.Column.{Column}
-use Rattle.ts_row.specs.Element.{Element}
-use Rattle.ts_cells.specs.Cell.{page_room}
-use Rattle.ts_cells.specs.IrregularPage.{AreElements, behind_head, first_stamp, irregular_page}
+use Rattle.ts_row.specs.Row.{Element}
+use Rattle.ts_cells.specs.IrregularPage.{page_room, AreElements, behind_head, first_stamp, irregular_page}
 use Rattle.ts_irregular.specs.Edit.{without_element}
 use Rattle.ts_irregular.specs.OnePage.{IsOn, place_of}
 use Rattle.ts_irregular.proofs.EditLemmas.{without_in_order}

@@ -10,10 +10,8 @@ use Rattle.ts_space.specs.declared.place.Place.{Place}
 use Rattle.ts_space.specs.Place.{AreAbove}
 use Rattle.ts_page.specs.Pages.{Contents}
 use Rattle.ts_row.specs.declared.kind.Column.{Column}
-use Rattle.ts_row.specs.Row.{Row}
-use Rattle.ts_row.specs.Element.{Element}
-use Rattle.ts_cells.specs.Cell.{cell_size, page_room}
-use Rattle.ts_cells.specs.IrregularPage.{AreInOrder, behind_head}
+use Rattle.ts_row.specs.Row.{Row, Element}
+use Rattle.ts_cells.specs.IrregularPage.{cell_size, page_room, AreInOrder, behind_head}
 use Rattle.ts_irregular.specs.Edit.{element_at, search_of}
 use Rattle.ts_irregular.specs.OnePage.{IsOn}
 use Rattle.ts_irregular.specs.Call.{Reads}
@@ -23,9 +21,8 @@ use Rattle.ts_irregular.proofs.EditLemmas.{int_lt_yes, int_lt_no}
 use Rattle.ts_irregular.proofs.HeadLemmas.{part_behind, length-page}
 use Rattle.ts_irregular.proofs.SearchLemmas.{rank_less, search_ok, search_err}
 use Rattle.ts_irregular.proofs.SeeLemmas.{behind_told}
-use Rattle.ts_sheets.specs.Chain.{all_in, IsChain}
+use Rattle.ts_sheets.specs.Stamped.{all_in, IsChain, next_second, last_before, unit_after, place_for}
 use Rattle.ts_sheets.specs.Places.{AreChained, IsHolder}
-use Rattle.ts_sheets.specs.Placing.{next_second, last_before, unit_after, place_for}
 use Rattle.ts_chain.specs.Call.{IsPlaceIn}
 use Rattle.ts_sheets.proofs.OrderLemmas.{all_in-append, some_z}
 use Rattle.ts_chain.proofs.EditLemmas.{none_later}

@@ -5,9 +5,8 @@ use lib.Seq.{paste}
 use Rattle.std.proofs.lemmas.Grind.{flat_map-append}
 use Rattle.std.proofs.lemmas.List.{take_at, drop_at, drop-drop, length-take-le, length-replicate, replicate-append-replicate}
 use Rattle.ts_row.specs.declared.kind.Column.{Column}
-use Rattle.ts_row.specs.Element.{Element}
-use Rattle.ts_cells.specs.Cell.{cell_bytes, cell_size, page_room}
-use Rattle.ts_cells.specs.IrregularPage.{AreElements, cells_bytes, behind_head}
+use Rattle.ts_row.specs.Row.{Element}
+use Rattle.ts_cells.specs.IrregularPage.{cell_bytes, cell_size, page_room, AreElements, cells_bytes, behind_head}
 use Rattle.ts_cells.proofs.HeadLemmas.{cells_fit}
 use Rattle.ts_cells.proofs.PageLemmas.{length-cells_bytes}
 use Rattle.ts_irregular.proofs.BytesLemmas.{halves}

@@ -6,16 +6,14 @@ use Rattle.ts_space.specs.declared.place.Place.{Place}
 use Rattle.ts_space.specs.Place.{AreAbove}
 use Rattle.ts_page.specs.Pages.{Contents, EqualPages, with_page}
 use Rattle.ts_row.specs.declared.kind.Column.{Column}
-use Rattle.ts_row.specs.Row.{Row}
-use Rattle.ts_row.specs.Element.{Element}
-use Rattle.ts_cells.specs.Cell.{IsElement, page_room}
-use Rattle.ts_cells.specs.IrregularPage.{irregular_page, first_stamp}
+use Rattle.ts_row.specs.Row.{Row, Element}
+use Rattle.ts_cells.specs.IrregularPage.{IsElement, page_room, irregular_page, first_stamp}
 use Rattle.ts_irregular.specs.Edit.{element_at, with_element}
 use Rattle.ts_irregular.specs.OnePage.{place_of}
 use Rattle.ts_irregular.specs.Call.{AreKept, ArePut}
 use Rattle.ts_irregular.specs.Call as one
 use Rattle.ts_irregular.proofs.CallerLemmas.{element_in, count_kept}
-use Rattle.ts_sheets.specs.Chain.{all_in, IsDense, IsChain}
+use Rattle.ts_sheets.specs.Stamped.{all_in, IsDense, IsChain}
 use Rattle.ts_space.specs.Place.{pages_of}
 use Rattle.ts_sheets.specs.Places.{AreChained, ArePlaces, IsHolder}
 use Rattle.ts_chain.specs.Call.{AreWritten, IsMissing, IsChanged}

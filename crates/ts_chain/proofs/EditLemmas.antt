@@ -1,11 +1,10 @@
 -- An edit of a list is that of the part which the stamp belongs to.
 use Rattle.std.proofs.Common.{◌≡◌, ℤ, ◌<ℤ◌, ◌≤ℤ◌, Some, None, List, [], ◌∷◌, ◌++◌, refl, sym, ap, ◌∙◌, arith}
 use Rattle.std.proofs.lemmas.Int.{by_lt_z, ints}
-use Rattle.ts_row.specs.Row.{Row}
-use Rattle.ts_row.specs.Element.{Element}
+use Rattle.ts_row.specs.Row.{Row, Element}
 use Rattle.ts_irregular.specs.Edit.{element_at, with_element, without_element}
 use Rattle.ts_irregular.proofs.EditLemmas.{int_lt_yes, int_lt_no}
-use Rattle.ts_sheets.specs.Chain.{all_in, AreEarlier, AreLater, IsAround}
+use Rattle.ts_sheets.specs.Stamped.{all_in, AreEarlier, AreLater, IsAround}
 use Rattle.ts_sheets.proofs.OrderLemmas.{all_in-append}
 
 -- an earlier element, a later one and one at the stamp

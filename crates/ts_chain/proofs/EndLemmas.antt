@@ -8,15 +8,12 @@ use Rattle.ts_space.specs.declared.moved.Moved.{Moved}
 use Rattle.ts_space.specs.Place.{AreAbove, IsRising, count_of, pages_of, place_of}
 use Rattle.ts_space.specs.Charge.{irregular_charge}
 use Rattle.ts_space.specs.Moved.{moved_to}
-use Rattle.ts_page.specs.Pages.{Answered, Contents}
+use Rattle.ts_page.specs.Pages.{Answered, Contents, first_element_page}
 use Rattle.ts_row.specs.declared.kind.Column.{Column}
-use Rattle.ts_row.specs.Row.{Row}
-use Rattle.ts_row.specs.Element.{Element}
-use Rattle.ts_cells.specs.Cell.{IsElement, page_room}
-use Rattle.ts_cells.specs.IrregularPage.{AreElements, irregular_page, first_stamp}
-use Rattle.ts_page.specs.Volume.{first_element_page}
+use Rattle.ts_row.specs.Row.{Row, Element}
+use Rattle.ts_cells.specs.IrregularPage.{IsElement, page_room, AreElements, irregular_page, first_stamp}
 use Rattle.ts_irregular.specs.OnePage.{IsPlace}
-use Rattle.ts_sheets.specs.Chain.{all_in, IsDense}
+use Rattle.ts_sheets.specs.Stamped.{all_in, IsDense}
 use Rattle.ts_sheets.specs.Places.{AreChained, ArePlaces, FitsFirst, FitsLast, IsTarget}
 use Rattle.ts_chain.specs.Call.{IsPutNew}
 use Rattle.ts_chain.specs.declared.halves.Halves.{Halves}

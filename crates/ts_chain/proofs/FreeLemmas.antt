@@ -8,8 +8,7 @@ use Rattle.std.proofs.lemmas.List.Edits.{length-swap, swapped_from_swap}
 use Rattle.std.proofs.lemmas.List.Sorted.{IsPermutation-sym, IsPermutation-trans, IsPermutation-keeps, IsPermutation-append_right, IsPermutation-cons, Contains-permutation}
 use Rattle.ts_space.specs.declared.place.Place.{Place}
 use Rattle.ts_space.specs.Place.{pages_of}
-use Rattle.ts_page.specs.Head.{zero_page}
-use Rattle.ts_page.specs.Pages.{Contents, Freed}
+use Rattle.ts_page.specs.Pages.{zero_page, Contents, Freed}
 use Rattle.ts_sheets.specs.Places.{CanBeFreed}
 use Rattle.ts_chain.specs.Call.{AreFreed}
 use Rattle.ts_chain.specs.Window.{AreFreedTo}

@@ -12,14 +12,12 @@ use Rattle.ts_space.specs.Charge.{irregular_charge}
 use Rattle.ts_space.specs.Moved.{moved_to}
 use Rattle.ts_page.specs.Pages.{Contents, with_page}
 use Rattle.ts_row.specs.declared.kind.Column.{Column}
-use Rattle.ts_row.specs.Row.{Row}
-use Rattle.ts_row.specs.Element.{Element}
-use Rattle.ts_cells.specs.Cell.{IsElement, page_room}
-use Rattle.ts_cells.specs.IrregularPage.{AreRising, irregular_page, first_stamp}
+use Rattle.ts_row.specs.Row.{Row, Element}
+use Rattle.ts_cells.specs.IrregularPage.{IsElement, page_room, AreRising, irregular_page, first_stamp}
 use Rattle.ts_irregular.specs.Edit.{element_at, with_element}
 use Rattle.ts_irregular.specs.OnePage.{IsOn}
 use Rattle.ts_irregular.proofs.EditLemmas.{with_in_order, int_lt_yes, int_lt_no}
-use Rattle.ts_sheets.specs.Chain.{all_in, AreBefore, AreEarlier, AreLater, ArePages, IsDense, IsChain, IsAround}
+use Rattle.ts_sheets.specs.Stamped.{all_in, AreBefore, AreEarlier, AreLater, ArePages, IsDense, IsChain, IsAround}
 use Rattle.ts_sheets.specs.Places.{AreChained, AreMoved, ArePlaces, FitsFirst, FitsLast, IsCounted, IsTarget}
 use Rattle.ts_chain.specs.Call.{AreWritten, IsPutNew}
 use Rattle.ts_chain.specs.Window.{half_of, AreHalves, ArePartedOf, AreSpread, HaveBoth, HavePart, begin_of}

@@ -14,10 +14,8 @@ use Rattle.ts_space.specs.Place.{AreAbove, IsRising, pages_of, place_of}
 use Rattle.ts_space.specs.Moved.{moved_to}
 use Rattle.ts_page.specs.Pages.{Contents, EqualPages, with_page}
 use Rattle.ts_row.specs.declared.kind.Column.{Column}
-use Rattle.ts_row.specs.Row.{Row}
-use Rattle.ts_row.specs.Element.{Element}
-use Rattle.ts_cells.specs.Cell.{IsElement, page_room}
-use Rattle.ts_cells.specs.IrregularPage.{AreInOrder, FillPage, IsIrregularPage, behind_head, irregular_page}
+use Rattle.ts_row.specs.Row.{Row, Element}
+use Rattle.ts_cells.specs.IrregularPage.{IsElement, page_room, AreInOrder, FillPage, IsIrregularPage, behind_head, irregular_page}
 use Rattle.ts_irregular.specs.Edit.{element_at, with_element, search_of}
 use Rattle.ts_irregular.specs.OnePage.{IsOn}
 use Rattle.ts_irregular.specs.Call.{ArePut, IsOneMore}
@@ -25,7 +23,7 @@ use Rattle.ts_irregular.proofs.EditLemmas.{with_in_order}
 use Rattle.ts_irregular.proofs.HeadLemmas.{length-page, part_behind}
 use Rattle.ts_irregular.proofs.SearchLemmas.{search_ok, search_err}
 use Rattle.ts_irregular.proofs.SeeLemmas.{behind_told}
-use Rattle.ts_sheets.specs.Chain.{all_in, AreBefore, IsChain}
+use Rattle.ts_sheets.specs.Stamped.{all_in, AreBefore, IsChain}
 use Rattle.ts_sheets.specs.Places.{AreChained, ArePlaces, IsCounted, IsHolder, IsTarget}
 use Rattle.ts_chain.specs.Call.{AreWritten, ChangesOnlyPages, IsInserted, IsPutNew, IsThereAlready}
 use Rattle.ts_chain.specs.Window.{half_of, ArePartedOf, HavePart}

@@ -6,11 +6,11 @@ use Rattle.std.proofs.lemmas.List.Elements.{filter-append}
 use Rattle.ts_space.specs.declared.place.Place.{Place}
 use Rattle.ts_page.specs.Pages.{Contents}
 use Rattle.ts_row.specs.declared.kind.Column.{Column}
-use Rattle.ts_row.specs.Element.{Element, seen}
+use Rattle.ts_row.specs.Row.{Element, seen}
 use Rattle.ts_irregular.specs.Edit.{last_of, last_seen}
 use Rattle.ts_irregular.specs.OnePage.{IsOn}
 use Rattle.ts_irregular.specs.Call.{Reads, IsLast}
-use Rattle.ts_sheets.specs.Chain.{all_in}
+use Rattle.ts_sheets.specs.Stamped.{all_in}
 use Rattle.ts_sheets.specs.Places.{AreChained}
 use Rattle.ts_sheets.proofs.OrderLemmas.{all_in-append}
 

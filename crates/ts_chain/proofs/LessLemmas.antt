@@ -6,12 +6,11 @@ use Rattle.std.proofs.Math.Seq.{get_or-append_seam}
 use Rattle.ts_space.specs.declared.place.Place.{Place}
 use Rattle.ts_space.specs.Place.{AreAbove, IsRising}
 use Rattle.ts_row.specs.declared.kind.Column.{Column}
-use Rattle.ts_row.specs.Row.{Row}
-use Rattle.ts_row.specs.Element.{Element}
+use Rattle.ts_row.specs.Row.{Row, Element}
 use Rattle.ts_cells.specs.IrregularPage.{AreRising, first_stamp}
 use Rattle.ts_irregular.specs.Edit.{element_at, without_element, rank_of}
 use Rattle.ts_irregular.proofs.EditLemmas.{take_there, rank_below_length}
-use Rattle.ts_sheets.specs.Chain.{all_in, AreEarlier, AreLater, ArePages}
+use Rattle.ts_sheets.specs.Stamped.{all_in, AreEarlier, AreLater, ArePages}
 use Rattle.ts_sheets.specs.Places.{AreChained, FitsFirst, FitsLast, IsBeginning}
 use Rattle.ts_sheets.proofs.DenseLemmas.{MeetsLeft, MeetsRight}
 use Rattle.ts_sheets.proofs.OrderLemmas.{later_of, later_than, some_z, first_earlier}

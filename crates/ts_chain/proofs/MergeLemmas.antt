@@ -5,13 +5,13 @@ use Rattle.ts_space.specs.declared.place.Place.{Place}
 use Rattle.ts_space.specs.Place.{AreAbove, IsRising}
 use Rattle.ts_page.specs.Pages.{Contents}
 use Rattle.ts_row.specs.declared.kind.Column.{Column}
-use Rattle.ts_row.specs.Element.{Element}
+use Rattle.ts_row.specs.Row.{Element}
 use Rattle.ts_cells.specs.IrregularPage.{AreElements, behind_head, first_stamp}
 use Rattle.ts_cells.proofs.HeadLemmas.{irregular_behind}
 use Rattle.ts_irregular.specs.Edit.{element_at, without_element}
 use Rattle.ts_irregular.specs.OnePage.{IsOn}
 use Rattle.ts_irregular.proofs.EditLemmas.{without_in_order}
-use Rattle.ts_sheets.specs.Chain.{all_in, ArePages, AreEarlier, AreLater, IsChain, IsAround}
+use Rattle.ts_sheets.specs.Stamped.{all_in, ArePages, AreEarlier, AreLater, IsChain, IsAround}
 use Rattle.ts_sheets.specs.Places.{AreChained, ArePlaces, IsBeginning, IsCounted}
 use Rattle.ts_chain.specs.Call.{AreWritten, IsTakenAway}
 use Rattle.ts_chain.specs.Window.{AreOnOne, IsRestOf}

@@ -4,14 +4,13 @@ use Rattle.std.specs.Prelude.{Contains, IfSome, IsPermutation, option_to_list}
 use Rattle.std.proofs.lemmas.List.Elements.{All-nil, All-cons}
 use Rattle.ts_space.specs.declared.place.Place.{Place}
 use Rattle.ts_space.specs.Place.{count_of, pages_of}
-use Rattle.ts_page.specs.Head.{zero_page}
-use Rattle.ts_page.specs.Pages.{Contents, EqualPages, Taken, with_page}
+use Rattle.ts_page.specs.Pages.{zero_page, Contents, EqualPages, Taken, with_page}
 use Rattle.ts_row.specs.declared.kind.Column.{Column}
-use Rattle.ts_row.specs.Element.{Element}
+use Rattle.ts_row.specs.Row.{Element}
 use Rattle.ts_cells.specs.IrregularPage.{AreElements, behind_head, irregular_page}
 use Rattle.ts_cells.proofs.HeadLemmas.{irregular_behind}
 use Rattle.ts_irregular.specs.OnePage.{IsOn}
-use Rattle.ts_sheets.specs.Chain.{all_in}
+use Rattle.ts_sheets.specs.Stamped.{all_in}
 use Rattle.ts_sheets.specs.Places.{AreChained, IsCounted}
 use Rattle.ts_chain.specs.declared.halves.Halves.{Halves}
 use Rattle.ts_chain.specs.Window.{AreSpread, begin_of}

@@ -5,10 +5,10 @@ use Rattle.ts_space.specs.declared.place.Place.{Place}
 use Rattle.ts_space.specs.Place.{AreAbove, IsRising, place_at, rank_of, search_of}
 use Rattle.ts_space.proofs.PlaceLemmas.{int_lt_yes, int_lt_no, int_eq_same, int_eq_lower, int_eq_higher, none_found}
 use Rattle.ts_row.specs.declared.kind.Column.{Column}
-use Rattle.ts_row.specs.Element.{Element}
+use Rattle.ts_row.specs.Row.{Element}
 use Rattle.ts_cells.specs.IrregularPage.{AreRising, first_stamp}
 use Rattle.ts_irregular.specs.OnePage.{IsOn}
-use Rattle.ts_sheets.specs.Chain.{all_in, AreEarlier, AreLater, AreBefore, ArePages, IsAround}
+use Rattle.ts_sheets.specs.Stamped.{all_in, AreEarlier, AreLater, AreBefore, ArePages, IsAround}
 use Rattle.ts_sheets.specs.Places.{AreChained, IsHolder}
 use Rattle.ts_sheets.proofs.OrderLemmas.{later_than, earlier_than, later_of, later_both, all_in-append, some_z}
 

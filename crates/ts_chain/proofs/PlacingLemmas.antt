@@ -5,12 +5,11 @@ use Rattle.std.specs.Prelude.{int_lt}
 use Rattle.std.specs.Option.{option_map}
 use Rattle.std.proofs.lemmas.Int.{by_lt_z, ints}
 use Rattle.std.proofs.lemmas.List.Elements.{filter-append}
-use Rattle.ts_row.specs.Element.{Element}
+use Rattle.ts_row.specs.Row.{Element}
 use Rattle.ts_cells.specs.IrregularPage.{AreRising, first_stamp}
 use Rattle.ts_irregular.specs.Edit.{element_at, last_of, rank_of}
 use Rattle.ts_irregular.proofs.EditLemmas.{int_lt_yes, int_lt_no, AreRising-tail, none_after}
-use Rattle.ts_sheets.specs.Chain.{AreLater}
-use Rattle.ts_sheets.specs.Placing.{earlier, last_before}
+use Rattle.ts_sheets.specs.Stamped.{AreLater, earlier, last_before}
 use Rattle.ts_sheets.proofs.OrderLemmas.{later_than, later_of, some_z}
 use Rattle.ts_chain.proofs.EditLemmas.{at_lower, at_higher, at_same}
 use Rattle.ts_chain.proofs.LastLemmas.{last_back, last_some}

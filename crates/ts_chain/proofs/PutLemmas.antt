@@ -9,12 +9,11 @@ use Rattle.ts_space.specs.declared.place.Place.{Place}
 use Rattle.ts_space.specs.Place.{AreAbove, IsRising, count_of, pages_of}
 use Rattle.ts_page.specs.Pages.{Contents}
 use Rattle.ts_row.specs.declared.kind.Column.{Column}
-use Rattle.ts_row.specs.Row.{Row}
-use Rattle.ts_row.specs.Element.{Element}
-use Rattle.ts_cells.specs.Cell.{IsElement, page_room}
+use Rattle.ts_row.specs.Row.{Row, Element}
+use Rattle.ts_cells.specs.IrregularPage.{IsElement, page_room}
 use Rattle.ts_irregular.specs.Edit.{with_element}
 use Rattle.ts_irregular.specs.OnePage.{IsOn, IsPlace}
-use Rattle.ts_sheets.specs.Chain.{all_in, AreBefore, ArePages, IsDense, IsChain, IsAround}
+use Rattle.ts_sheets.specs.Stamped.{all_in, AreBefore, ArePages, IsDense, IsChain, IsAround}
 use Rattle.ts_sheets.specs.Places.{AreChained, AreMoved, ArePlaces, IsCounted}
 use Rattle.ts_chain.specs.Call.{AreWritten, ChangesOnlyPages}
 use Rattle.ts_chain.specs.Window.{HavePart, StartsWith, EndsWith}

@@ -6,14 +6,12 @@ use Rattle.std.proofs.lemmas.List.Elements.{All-cons, All-head, All-tail}
 use Rattle.std.proofs.lemmas.List.Sums.{sum_by-append, sum_by-cons}
 use Rattle.ts_space.specs.declared.place.Place.{Place}
 use Rattle.ts_space.specs.Place.{AreAbove, IsRising, count_of}
-use Rattle.ts_page.specs.Head.{zero_page}
-use Rattle.ts_page.specs.Pages.{Contents, EqualPages, with_page}
+use Rattle.ts_page.specs.Pages.{zero_page, Contents, EqualPages, with_page}
 use Rattle.ts_row.specs.declared.kind.Column.{Column}
-use Rattle.ts_row.specs.Element.{Element}
-use Rattle.ts_cells.specs.Cell.{page_room}
-use Rattle.ts_cells.specs.IrregularPage.{irregular_page, first_stamp}
+use Rattle.ts_row.specs.Row.{Element}
+use Rattle.ts_cells.specs.IrregularPage.{page_room, irregular_page, first_stamp}
 use Rattle.ts_irregular.specs.Edit.{without_element}
-use Rattle.ts_sheets.specs.Chain.{all_in, ArePages, AreSized, IsDense, IsChain, IsAround}
+use Rattle.ts_sheets.specs.Stamped.{all_in, ArePages, AreSized, IsDense, IsChain, IsAround}
 use Rattle.ts_space.specs.Place.{pages_of}
 use Rattle.ts_sheets.specs.Places.{AreChained, AreMoved, IsCounted}
 use Rattle.ts_chain.specs.Call.{AreWritten}

@@ -6,8 +6,7 @@ use Rattle.ts_space.specs.declared.place.Place.{Place}
 use Rattle.ts_space.specs.Place.{IsRising}
 use Rattle.ts_page.specs.Pages.{Contents, EqualPages}
 use Rattle.ts_row.specs.declared.kind.Column.{Column}
-use Rattle.ts_row.specs.Row.{Row}
-use Rattle.ts_row.specs.Element.{Element}
+use Rattle.ts_row.specs.Row.{Row, Element}
 use Rattle.ts_cells.specs.IrregularPage.{AreInOrder, behind_head, irregular_page}
 use Rattle.ts_irregular.specs.Edit.{element_at, without_element}
 use Rattle.ts_irregular.specs.OnePage.{IsOn, IsPlace}

@@ -2,15 +2,14 @@
 use Rattle.std.proofs.Common.{◌≡◌, ℕ, zero, suc, ◌+◌, ◌-◌, ◌≤◌, ℤ, ◌<ℤ◌, ◌≤ℤ◌, cond, Option, None, is_some, Result, Ok, Err, List, [], ◌∷◌, ◌++◌, length, take, drop, refl, sym, ap, ◌∙◌, arith, length-append, length-drop}
 use Rattle.std.proofs.lemmas.Int.{by_lt_z, ints}
 use Rattle.std.proofs.lemmas.List.{take-append-drop, take_at, drop_at, length-take-le}
-use Rattle.ts_row.specs.Row.{Row}
-use Rattle.ts_row.specs.Element.{Element}
+use Rattle.ts_row.specs.Row.{Row, Element}
 use Rattle.ts_cells.specs.IrregularPage.{AreRising}
 use Rattle.ts_irregular.specs.Edit.{element_at, with_element, rank_of, search_of}
 use Rattle.ts_irregular.proofs.EditLemmas.{int_lt_yes, int_lt_no}
 use Rattle.ts_irregular.proofs.SearchLemmas.{search_err}
 use Rattle.ts_irregular.proofs.PutLemmas.{put_before}
 use Rattle.ts_irregular.proofs.BytesLemmas.{length-inserted}
-use Rattle.ts_sheets.specs.Chain.{AreEarlier, AreLater}
+use Rattle.ts_sheets.specs.Stamped.{AreEarlier, AreLater}
 use Rattle.ts_sheets.proofs.OrderLemmas.{later_of, later_than, rising_tail}
 use Rattle.ts_chain.proofs.EditLemmas.{at_lower, at_same, at_behind, at_before, with_behind, with_before}
 

@@ -3,13 +3,11 @@ use Rattle.std.proofs.Common.{◌≡◌, ℕ, ◌+◌, ◌<◌, ◌≤◌, ◌^�
 use Rattle.std.proofs.lemmas.List.{take-append-drop}
 use Rattle.ts_space.specs.declared.place.Place.{Place}
 use Rattle.ts_row.specs.declared.kind.Column.{Column}
-use Rattle.ts_row.specs.Row.{Row}
-use Rattle.ts_row.specs.Element.{Element}
-use Rattle.ts_cells.specs.Cell.{IsElement, page_room}
-use Rattle.ts_cells.specs.IrregularPage.{AreInOrder, irregular_page, first_stamp}
+use Rattle.ts_row.specs.Row.{Row, Element}
+use Rattle.ts_cells.specs.IrregularPage.{IsElement, page_room, AreInOrder, irregular_page, first_stamp}
 use Rattle.ts_irregular.specs.Edit.{with_element}
 use Rattle.ts_irregular.proofs.EditLemmas.{with_in_order}
-use Rattle.ts_sheets.specs.Chain.{all_in, ArePages, AreSized, IsAround}
+use Rattle.ts_sheets.specs.Stamped.{all_in, ArePages, AreSized, IsAround}
 use Rattle.ts_sheets.specs.Places.{AreChained, IsCounted}
 use Rattle.ts_chain.specs.Window.{half_of, AreHalves, HavePart}
 use Rattle.ts_sheets.proofs.OrderLemmas.{pages_in_order, pages_made}

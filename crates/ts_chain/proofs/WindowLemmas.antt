@@ -1,13 +1,11 @@
 -- Pages side by side that become others.
 use Rattle.std.proofs.Common.{◌≡◌, ℤ, List, [], ◌∷◌, ◌++◌, sym, ap, subst, ◌∙◌, append-nil}
 use Rattle.ts_row.specs.declared.kind.Column.{Column}
-use Rattle.ts_row.specs.Row.{Row}
-use Rattle.ts_row.specs.Element.{Element}
-use Rattle.ts_cells.specs.Cell.{IsElement, page_room}
-use Rattle.ts_cells.specs.IrregularPage.{AreInOrder}
+use Rattle.ts_row.specs.Row.{Row, Element}
+use Rattle.ts_cells.specs.IrregularPage.{IsElement, page_room, AreInOrder}
 use Rattle.ts_irregular.specs.Edit.{element_at, with_element, without_element}
 use Rattle.ts_irregular.proofs.EditLemmas.{with_in_order, without_in_order}
-use Rattle.ts_sheets.specs.Chain.{all_in, AreSized, IsDense, IsChain, IsAround}
+use Rattle.ts_sheets.specs.Stamped.{all_in, AreSized, IsDense, IsChain, IsAround}
 use Rattle.ts_sheets.proofs.OrderLemmas.{pages_in_order, sized_pages, sized_front, sized_back, sized_both, pages_made}
 use Rattle.ts_chain.proofs.EditLemmas.{all_between, at_around, with_around, without_around}
 

@@ -2,20 +2,17 @@
 use Rattle.std.specs.Prelude.{◌≡◌, ℕ, ◌+◌, ◌≤◌, ℤ, Bool, true, false, IsTrue, Option, Some, None, IsSome, Contains}
 use Rattle.std.specs.Prelude.{List, ◌++◌, IsPermutation}
 use Rattle.ts_space.specs.declared.place.Place.{Place}
-use Rattle.ts_page.specs.Head.{zero_page}
-use Rattle.ts_page.specs.Pages.{Contents}
+use Rattle.ts_page.specs.Pages.{zero_page, Contents}
 use Rattle.ts_row.specs.declared.kind.Column.{Column}
-use Rattle.ts_row.specs.Row.{Row, marked}
-use Rattle.ts_row.specs.Element.{Element}
+use Rattle.ts_row.specs.Row.{Row, marked, Element}
 use Rattle.ts_irregular.specs.Edit.{element_at, with_element, without_element, last_seen}
 use Rattle.ts_irregular.specs.Call.{Stays}
 use Rattle.ts_space.specs.Place.{count_of}
 use Rattle.ts_space.specs.declared.moved.Moved.{Moved}
-use Rattle.ts_sheets.specs.Chain.{IsChain, all_in}
+use Rattle.ts_sheets.specs.Stamped.{IsChain, all_in, place_for}
 use Rattle.ts_space.specs.Place.{pages_of}
 use Rattle.ts_space.specs.Moved.{moved_to}
 use Rattle.ts_sheets.specs.Places.{AreChained, AreMoved}
-use Rattle.ts_sheets.specs.Placing.{place_for}
 
 -- Where the pages are told, this holds of the chain that they have and their places tell of. Of pages that have none
 -- such it says nothing.

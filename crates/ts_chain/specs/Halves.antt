@@ -5,9 +5,8 @@ use Rattle.std.specs.Int.{int_min}
 use Rattle.ts_space.specs.declared.place.Place.{Place}
 use Rattle.ts_page.specs.Pages.{Contents}
 use Rattle.ts_row.specs.declared.kind.Column.{Column}
-use Rattle.ts_row.specs.Element.{Element}
-use Rattle.ts_cells.specs.Cell.{page_room}
-use Rattle.ts_cells.specs.IrregularPage.{AreElements, irregular_page, first_stamp}
+use Rattle.ts_row.specs.Row.{Element}
+use Rattle.ts_cells.specs.IrregularPage.{page_room, AreElements, irregular_page, first_stamp}
 use Rattle.ts_irregular.specs.OnePage.{IsPlace}
 use Rattle.ts_chain.specs.declared.halves.Halves.{Halves}
 use Rattle.ts_sheets.specs.Places.{FitsFirst, FitsLast, IsCounted}

@@ -3,16 +3,13 @@
 use Rattle.std.specs.Prelude.{◌≡◌, ℕ, ◌+◌, ◌*◌, ◌/◌, ◌≤◌, ℤ, Bool, IsTrue, Some, None, IsSome, All, IsPermutation}
 use Rattle.std.specs.Prelude.{Contains, List, [], ◌∷◌, ◌++◌, take, drop, length}
 use Rattle.ts_space.specs.declared.place.Place.{Place}
-use Rattle.ts_page.specs.Head.{zero_page}
-use Rattle.ts_page.specs.Pages.{Contents, EqualPages, with_page}
+use Rattle.ts_page.specs.Pages.{zero_page, Contents, EqualPages, with_page}
 use Rattle.ts_row.specs.declared.kind.Column.{Column}
-use Rattle.ts_row.specs.Row.{Row}
-use Rattle.ts_row.specs.Element.{Element}
-use Rattle.ts_cells.specs.Cell.{page_room}
-use Rattle.ts_cells.specs.IrregularPage.{AreElements, irregular_page, first_stamp}
+use Rattle.ts_row.specs.Row.{Row, Element}
+use Rattle.ts_cells.specs.IrregularPage.{page_room, AreElements, irregular_page, first_stamp}
 use Rattle.ts_irregular.specs.Edit.{element_at, with_element, without_element}
 use Rattle.ts_irregular.specs.OnePage.{IsOn}
-use Rattle.ts_sheets.specs.Chain.{ArePages, IsDense, all_in}
+use Rattle.ts_sheets.specs.Stamped.{ArePages, IsDense, all_in}
 use Rattle.ts_space.specs.Place.{count_of, pages_of}
 use Rattle.ts_sheets.specs.Places.{AreChained, IsCounted}
 use Rattle.ts_chain.specs.Call.{ChangesOnlyPages}

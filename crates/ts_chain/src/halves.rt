@@ -3,7 +3,7 @@ ghost use Rattle.std.specs.Prelude.{◌≡◌, ◌+◌, ◌<◌, ◌≤◌, ◌<
 ghost use Rattle.std.specs.Int.{int_min};
 ghost use Rattle.ts_space.specs.declared.place.Place.{Place as ThePlace};
 ghost use Rattle.ts_space.specs.Place.{AreAbove, IsRising};
-ghost use Rattle.ts_cells.specs.Cell.{page_room};
+ghost use Rattle.ts_cells.specs.IrregularPage.{page_room};
 ghost use Rattle.ts_chain.specs.Halves.{AreHalved, IsJoinedBefore, IsJoinedBehind};
 ghost use Rattle.ts_chain.specs.Window.{half_of};
 

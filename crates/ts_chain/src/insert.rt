@@ -6,7 +6,7 @@ ghost use Rattle.ts_space.specs.Directory.{places_of};
 ghost use Rattle.ts_space.specs.Charge.{irregular_charge};
 ghost use Rattle.ts_page.specs.Pages.{Answered};
 ghost use Rattle.ts_row.specs.Row.{fits};
-ghost use Rattle.ts_cells.specs.Cell.{page_room};
+ghost use Rattle.ts_cells.specs.IrregularPage.{page_room};
 ghost use Rattle.ts_sheets.specs.Places.{ArePlaces, IsTarget};
 ghost use Rattle.ts_chain.specs.Call.{IsInserted};
 

@@ -1,9 +1,8 @@
 // A page goes together with its neighbour.
 ghost use Rattle.std.specs.Prelude.{◌≡◌, ◌+◌, ◌<◌, ◌≤◌, Contains, IsTrue, IfOk, OnOk, List, ◌∷◌, ◌++◌, length, drop};
 ghost use Rattle.ts_page.specs.Pages.{Answered, EqualPages, IsElementPage, with_page};
-ghost use Rattle.ts_row.specs.Element.{Element};
-ghost use Rattle.ts_cells.specs.Cell.{page_room};
-ghost use Rattle.ts_cells.specs.IrregularPage.{AreElements, behind_head, irregular_page};
+ghost use Rattle.ts_row.specs.Row.{Element};
+ghost use Rattle.ts_cells.specs.IrregularPage.{page_room, AreElements, behind_head, irregular_page};
 ghost use Rattle.ts_irregular.specs.OnePage.{IsOn};
 ghost use Rattle.ts_irregular.specs.Call.{Reads};
 ghost use Rattle.ts_space.specs.declared.place.Place.{Place as ThePlace};

@@ -5,13 +5,11 @@ ghost use Rattle.ts_space.specs.Place.{pages_of};
 ghost use Rattle.ts_space.specs.declared.place.Place.{Place as ThePlace};
 ghost use Rattle.ts_page.specs.Pages.{Contents, IsLawful};
 ghost use Rattle.ts_row.specs.declared.kind.Column.{Column as TheColumn};
-ghost use Rattle.ts_row.specs.Row.{Row};
-ghost use Rattle.ts_row.specs.Element.{Element};
-ghost use Rattle.ts_cells.specs.Cell.{IsElement, page_room};
-ghost use Rattle.ts_cells.specs.IrregularPage.{AreInOrder};
+ghost use Rattle.ts_row.specs.Row.{Row, Element};
+ghost use Rattle.ts_cells.specs.IrregularPage.{IsElement, page_room, AreInOrder};
 ghost use Rattle.ts_irregular.specs.Edit.{element_at, with_element, without_element};
 ghost use Rattle.ts_sheets.specs.Places.{AreMoved, ArePlaces, CanBeFreed, CanBeRead};
-ghost use Rattle.ts_sheets.specs.Chain.{AreSized, IsDense, IsChain, IsAround, all_in};
+ghost use Rattle.ts_sheets.specs.Stamped.{AreSized, IsDense, IsChain, IsAround, all_in};
 
 /// The elements of its pages, one page after the other, are in order.
 pub fn a_chain_is_in_order()

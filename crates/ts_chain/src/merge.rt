@@ -1,10 +1,8 @@
 // Two pages side by side become one.
 ghost use Rattle.std.specs.Prelude.{◌≡◌, ◌+◌, ◌<◌, ◌≤◌, Contains, IsTrue, IfOk, OnOk, List, ◌∷◌, ◌++◌, length, drop};
-ghost use Rattle.ts_page.specs.Head.{zero_page};
-ghost use Rattle.ts_page.specs.Pages.{Answered, EqualPages, IsElementPage, with_page};
-ghost use Rattle.ts_row.specs.Element.{Element};
-ghost use Rattle.ts_cells.specs.Cell.{page_room};
-ghost use Rattle.ts_cells.specs.IrregularPage.{AreElements, behind_head};
+ghost use Rattle.ts_page.specs.Pages.{zero_page, Answered, EqualPages, IsElementPage, with_page};
+ghost use Rattle.ts_row.specs.Row.{Element};
+ghost use Rattle.ts_cells.specs.IrregularPage.{page_room, AreElements, behind_head};
 ghost use Rattle.ts_irregular.specs.OnePage.{IsPlace, IsOn};
 ghost use Rattle.ts_sheets.specs.Places.{IsCounted};
 ghost use Rattle.ts_chain.specs.Window.{AreOnOne};

@@ -1,9 +1,7 @@
 // A page of a chain: parted in two, or put behind another.
 ghost use Rattle.std.specs.Prelude.{◌≡◌, ◌+◌, ◌/◌, ◌≤◌, IsTrue, Err, List, ◌++◌, length, take, drop};
-ghost use Rattle.ts_row.specs.Row.{fits};
-ghost use Rattle.ts_row.specs.Element.{Element};
-ghost use Rattle.ts_cells.specs.Cell.{page_room};
-ghost use Rattle.ts_cells.specs.IrregularPage.{AreElements, AreInOrder, behind_head, irregular_page};
+ghost use Rattle.ts_row.specs.Row.{fits, Element};
+ghost use Rattle.ts_cells.specs.IrregularPage.{page_room, AreElements, AreInOrder, behind_head, irregular_page};
 ghost use Rattle.ts_irregular.specs.Edit.{with_element, search_of};
 
 use crate::cells::{append_cells, keep_first, keep_others};

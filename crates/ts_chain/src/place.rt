@@ -3,13 +3,12 @@ ghost use Rattle.std.specs.Prelude.{◌≡◌, ◌<◌, ◌≤◌, ◌≤ℤ◌,
 ghost use Rattle.std.specs.Option.{option_and_then};
 ghost use Rattle.ts_base.specs.Moment.{IsStamp};
 ghost use Rattle.ts_space.specs.Directory.{places_of};
-ghost use Rattle.ts_row.specs.Element.{Element};
-ghost use Rattle.ts_cells.specs.Cell.{page_room};
-ghost use Rattle.ts_cells.specs.IrregularPage.{AreInOrder, behind_head};
+ghost use Rattle.ts_row.specs.Row.{Element};
+ghost use Rattle.ts_cells.specs.IrregularPage.{page_room, AreInOrder, behind_head};
 ghost use Rattle.ts_irregular.specs.OnePage.{IsOn};
 ghost use Rattle.ts_irregular.specs.Call.{Reads};
 ghost use Rattle.ts_sheets.specs.Places.{CanBeRead};
-ghost use Rattle.ts_sheets.specs.Placing.{next_second, last_before, unit_after};
+ghost use Rattle.ts_sheets.specs.Stamped.{next_second, last_before, unit_after};
 ghost use Rattle.ts_chain.specs.Call.{IsPlaceIn};
 
 use crate::find::holder;

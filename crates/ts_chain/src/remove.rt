@@ -4,7 +4,7 @@ ghost use Rattle.ts_space.specs.declared.place.Place.{Place as ThePlace};
 ghost use Rattle.ts_space.specs.Place.{IsRising};
 ghost use Rattle.ts_space.specs.Directory.{places_of};
 ghost use Rattle.ts_page.specs.Pages.{Answered};
-ghost use Rattle.ts_cells.specs.Cell.{page_room};
+ghost use Rattle.ts_cells.specs.IrregularPage.{page_room};
 ghost use Rattle.ts_space.specs.Moved.{moved_to};
 ghost use Rattle.ts_sheets.specs.Places.{ArePlaces, IsBeginning, IsHolder};
 ghost use Rattle.ts_chain.specs.Call.{IsRemoved, IsTakenAway};

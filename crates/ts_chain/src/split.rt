@@ -7,7 +7,7 @@ ghost use Rattle.ts_space.specs.Charge.{irregular_charge};
 ghost use Rattle.ts_space.specs.Moved.{moved_to};
 ghost use Rattle.ts_page.specs.Pages.{Answered};
 ghost use Rattle.ts_row.specs.Row.{Row};
-ghost use Rattle.ts_cells.specs.Cell.{IsElement, page_room};
+ghost use Rattle.ts_cells.specs.IrregularPage.{IsElement, page_room};
 ghost use Rattle.ts_sheets.specs.Places.{ArePlaces, IsTarget};
 ghost use Rattle.ts_chain.specs.Call.{IsPutNew};
 ghost use Rattle.ts_chain.specs.Window.{ArePartedOf};

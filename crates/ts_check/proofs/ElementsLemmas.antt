@@ -2,8 +2,7 @@
 use Rattle.std.proofs.Common.{◌≡◌, ℕ, ◌+◌, ◌-◌, ◌≤◌, Bool, IsTrue, Result, Ok, Err, List, [], ◌++◌, length, take, drop, refl, sym, ap, subst, ◌∙◌, arith}
 use Rattle.std.proofs.Math.ListN.{drop_of_length-le}
 use Rattle.std.proofs.Math.Seq.{take-append_seam}
-use Rattle.ts_page.specs.Pages.{Contents}
-use Rattle.ts_page.specs.Volume.{first_element_page}
+use Rattle.ts_page.specs.Pages.{Contents, first_element_page}
 use Rattle.ts_model.specs.Definitions.{Definitions}
 use Rattle.ts_container.specs.declared.elements.Elements.{Elements}
 use Rattle.ts_container.specs.declared.fault.SurveyFault.{SurveyFault}

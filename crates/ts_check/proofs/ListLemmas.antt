@@ -5,8 +5,7 @@ use Rattle.std.proofs.lemmas.Bool.{cases_eq, cases_lt}
 use Rattle.std.proofs.lemmas.List.{append-nil, get_or-set_other, get_or_append_left, get_or-append_right}
 use Rattle.std.proofs.lemmas.Option.{slice_get_within, get_or_from_slice_get, slice_get-get_or, slice_get_cases}
 use Rattle.std.proofs.lemmas.Grind.{get_or-set_at}
-use Rattle.ts_page.specs.Pages.{Contents, EqualPages}
-use Rattle.ts_page.specs.Volume.{first_element_page}
+use Rattle.ts_page.specs.Pages.{Contents, EqualPages, first_element_page}
 use Rattle.ts_model.specs.Definitions.{Definitions}
 use Rattle.ts_layout.specs.Meaning.{ElementPage, Free, element_page, HoldsElements}
 use Rattle.ts_layout.proofs.CallerLemmas.{before, at_end}

@@ -1,8 +1,7 @@
 -- What is found of a volume that is read through a store.
 use Rattle.std.proofs.Common.{◌≡◌, inl, inr, ⊎_elim, ℕ, ◌*◌, Bool, IsTrue, Result, Ok, Err, IfOk, IfErr, None, List, [], length, refl, ap, sym, ◌∙◌, subst, arith}
 use Rattle.ts_disk.specs.Device.{Device, Lawful, Rose}
-use Rattle.ts_journal.specs.Entry.{Entry, AreAllowed}
-use Rattle.ts_journal.specs.Journal.{IsVolumeSize, page_count, pages, StandsOver}
+use Rattle.ts_journal.specs.Journal.{Entry, AreAllowed, IsVolumeSize, page_count, pages, StandsOver}
 use Rattle.ts_journal.specs.Moment.{OnlyReads}
 use Rattle.ts_recover.specs.declared.replay.RecoverFault.{RecoverFault}
 use Rattle.ts_recover.specs.declared.replay.RecoverFault.TheVariants as journal

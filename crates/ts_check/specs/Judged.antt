@@ -1,8 +1,7 @@
 -- Element pages that are read into a list, and what is found of them.
 use Rattle.std.specs.Prelude.{◌≡◌, ℕ, ◌+◌, ◌<◌, Bool, IsTrue, Option, Some, List, ◌++◌, length, slice_get, Result, OnOk}
 use Rattle.std.specs.Prelude.{IfErr, IsErrOf}
-use Rattle.ts_page.specs.Volume.{first_element_page}
-use Rattle.ts_page.specs.Pages.{Contents}
+use Rattle.ts_page.specs.Pages.{first_element_page, Contents}
 use Rattle.ts_model.specs.Definitions.{Definitions}
 use Rattle.ts_layout.specs.Meaning.{ElementPage, element_page, HoldsElements}
 use Rattle.ts_container.specs.declared.content.Content.{Content}

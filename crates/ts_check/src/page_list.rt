@@ -1,7 +1,6 @@
 // Element pages that are read one after the other, and then judged by several workers.
 ghost use Rattle.std.specs.Prelude.{◌≡◌, ◌+◌, ◌≤◌, ◌<◌, ◌^◌, ℕ, IfOk, OnOk, IfErr, length};
-ghost use Rattle.ts_page.specs.Volume.{first_element_page};
-ghost use Rattle.ts_page.specs.Pages.{IsElementPage};
+ghost use Rattle.ts_page.specs.Pages.{first_element_page, IsElementPage};
 ghost use Rattle.ts_model.specs.Definitions.{Definitions, IsDefinitions};
 ghost use Rattle.ts_layout.specs.Meaning.{KeepLimits, HaveOrigins};
 ghost use Rattle.ts_container.specs.Elements.{IsContentOf};

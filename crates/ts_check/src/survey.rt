@@ -1,6 +1,6 @@
 // The survey of all pages, as an opening makes it, with the element pages in lists.
 ghost use Rattle.std.specs.Prelude.{◌≡◌, ◌+◌, ◌-◌, ◌≤◌, ◌<◌, IfOk, IfErr, IsTrue};
-ghost use Rattle.ts_page.specs.Volume.{first_element_page, most_element_pages};
+ghost use Rattle.ts_page.specs.Pages.{first_element_page, most_element_pages};
 ghost use Rattle.ts_model.specs.Definitions.{IsDefinitions};
 ghost use Rattle.ts_layout.specs.Meaning.{KeepLimits, HaveOrigins};
 ghost use Rattle.ts_volume.specs.FirstBad.{IsFirstBad};

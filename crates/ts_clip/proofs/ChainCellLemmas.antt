@@ -11,13 +11,12 @@ use Rattle.ts_base.specs.Moment.{IsStamp, stamp_if_any}
 use Rattle.ts_space.proofs.PlaceLemmas.{int_lt_no}
 use Rattle.ts_row.specs.declared.kind.Column.{Column}
 use Rattle.ts_row.specs.Encoding.{row_bytes}
-use Rattle.ts_row.specs.Element.{Element, seen}
-use Rattle.ts_cells.specs.Cell.{IsElement, cell_bytes, stamp_bytes}
+use Rattle.ts_row.specs.Row.{Element, seen}
+use Rattle.ts_cells.specs.IrregularPage.{IsElement, cell_bytes, stamp_bytes}
 use Rattle.ts_cells.proofs.CellLemmas.{units_back}
 use Rattle.ts_cells.proofs.PageLemmas.{length-cell_bytes}
 use Rattle.ts_irregular.proofs.BytesLemmas.{Part}
-use Rattle.ts_entry.specs.Reading.{first_seen}
-use Rattle.ts_entry.specs.Entry.{AreSeenBytes}
+use Rattle.ts_entry.specs.Entry.{first_seen, AreSeenBytes}
 
 -- a stamp is one again
 stamp_is : (z : ℤ) → IsStamp z → stamp_if_any z ≡ Some z

@@ -4,10 +4,10 @@ use Rattle.std.specs.Prelude.{slice_get}
 use Rattle.std.proofs.lemmas.List.{take-append-drop}
 use Rattle.ts_space.specs.declared.place.Place.{Place}
 use Rattle.ts_row.specs.declared.kind.Column.{Column}
-use Rattle.ts_row.specs.Element.{Element, seen}
-use Rattle.ts_sheets.specs.Chain.{all_in}
+use Rattle.ts_row.specs.Row.{Element, seen}
+use Rattle.ts_sheets.specs.Stamped.{all_in}
 use Rattle.ts_sheets.proofs.OrderLemmas.{all_in-append}
-use Rattle.ts_entry.specs.Reading.{first_seen}
+use Rattle.ts_entry.specs.Entry.{first_seen}
 use Rattle.ts_clip.proofs.ChainCellLemmas.{seen_both}
 use Rattle.ts_clip.proofs.ChainPageLemmas.{PageIn}
 

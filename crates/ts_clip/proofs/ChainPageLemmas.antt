@@ -6,16 +6,15 @@ use Rattle.std.proofs.lemmas.List.Elements.{filter-append}
 use Rattle.ts_space.specs.declared.place.Place.{Place}
 use Rattle.ts_page.specs.Pages.{Contents, Got, IsElementPage}
 use Rattle.ts_row.specs.declared.kind.Column.{Column}
-use Rattle.ts_row.specs.Element.{Element, seen}
+use Rattle.ts_row.specs.Row.{Element, seen}
 use Rattle.ts_cells.specs.IrregularPage.{AreInOrder, behind_head}
 use Rattle.ts_irregular.specs.OnePage.{IsOn}
 use Rattle.ts_irregular.specs.Call.{Reads}
 use Rattle.ts_irregular.proofs.SeeLemmas.{behind_told}
 use Rattle.ts_irregular.proofs.FindLemmas.{read_on}
 use Rattle.ts_irregular.proofs.HeadLemmas.{part_behind, length-page}
-use Rattle.ts_sheets.specs.Chain.{all_in}
+use Rattle.ts_sheets.specs.Stamped.{all_in, is_within, within_range}
 use Rattle.ts_sheets.specs.Places.{AreChained, CanBeRead}
-use Rattle.ts_sheets.specs.Range.{is_within, within_range}
 use Rattle.ts_sheets.proofs.OrderLemmas.{all_in-append}
 use Rattle.ts_chain.proofs.LastLemmas.{chained_count}
 use Rattle.ts_clip.proofs.ChainCellLemmas.{seen_both}

@@ -1,6 +1,6 @@
 -- What is wanted of elements, and elements that are passed one after the other.
 use Rattle.std.proofs.Common.{◌≡◌, ℕ, zero, suc, ◌-◌, ◌<◌, false, not, cond, List, [], ◌∷◌, ◌++◌, map, take, drop, refl, sym, ap, subst, ◌∙◌, arith, append_assoc, length-append}
-use Rattle.ts_row.specs.Element.{Element, seen}
+use Rattle.ts_row.specs.Row.{Element, seen}
 use Rattle.ts_entry.specs.Entry.{Entry, filled}
 use Rattle.ts_clip.specs.declared.chain_cells.Wanted.{Wanted}
 use Rattle.ts_clip.specs.Chain.{wanted_of, ArePassed}

@@ -8,13 +8,11 @@ use Rattle.std.proofs.lemmas.List.Filters.{length-filter_both}
 use Rattle.ts_space.specs.declared.place.Place.{Place}
 use Rattle.ts_space.specs.Place.{AreAbove}
 use Rattle.ts_row.specs.declared.kind.Column.{Column}
-use Rattle.ts_row.specs.Element.{Element}
+use Rattle.ts_row.specs.Row.{Element}
 use Rattle.ts_cells.specs.IrregularPage.{AreRising}
 use Rattle.ts_irregular.proofs.EditLemmas.{int_lt_yes, int_lt_no}
-use Rattle.ts_sheets.specs.Chain.{all_in, AreEarlier, AreLater, ArePages}
+use Rattle.ts_sheets.specs.Stamped.{all_in, AreEarlier, AreLater, ArePages, earlier, is_within, within_range}
 use Rattle.ts_sheets.specs.Places.{AreChained}
-use Rattle.ts_sheets.specs.Placing.{earlier}
-use Rattle.ts_sheets.specs.Range.{is_within, within_range}
 use Rattle.ts_sheets.proofs.OrderLemmas.{all_in-append, later_than, later_of, rising_tail}
 use Rattle.ts_chain.proofs.LastLemmas.{chained_count}
 use Rattle.ts_chain.proofs.PlaceLemmas.{chain_later}

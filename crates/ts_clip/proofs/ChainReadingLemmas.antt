@@ -5,12 +5,11 @@ use Rattle.std.proofs.lemmas.List.{take_all, take-map, drop-map, length-map}
 use Rattle.std.proofs.Math.Seq.{drop-append-add}
 use Rattle.ts_base.specs.declared.refusal.Refusal.TheVariants.{TooLarge}
 use Rattle.ts_row.specs.declared.kind.Column.{Column}
-use Rattle.ts_row.specs.Element.{Element, seen}
+use Rattle.ts_row.specs.Row.{Element, seen}
 use Rattle.ts_cells.specs.IrregularPage.{AreElements}
 use Rattle.ts_irregular.proofs.EditLemmas.{int_lt_no}
-use Rattle.ts_sheets.specs.Range.{is_within, within_range}
-use Rattle.ts_entry.specs.Entry.{Entry, filled, elements_of, AreTaken}
-use Rattle.ts_entry.specs.Reading.{clipped, counted, entry_number, last_ones}
+use Rattle.ts_sheets.specs.Stamped.{is_within, within_range}
+use Rattle.ts_entry.specs.Entry.{Entry, filled, elements_of, AreTaken, clipped, counted, entry_number, last_ones}
 use Rattle.ts_base.specs.Answer.{most_rows, within_rows}
 use Rattle.ts_clip.specs.Call.{IsRead}
 use Rattle.ts_clip.specs.declared.chain_cells.Wanted.{Wanted}

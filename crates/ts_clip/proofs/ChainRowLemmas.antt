@@ -3,9 +3,8 @@ use Rattle.std.proofs.Common.{◌≡◌, ℕ, suc, ◌+◌, ℤ, List, [], ◌�
 use Rattle.std.proofs.lemmas.List.Elements.{filter-append}
 use Rattle.ts_space.specs.declared.place.Place.{Place}
 use Rattle.ts_row.specs.declared.kind.Column.{Column}
-use Rattle.ts_row.specs.Element.{Element}
-use Rattle.ts_sheets.specs.Chain.{all_in}
-use Rattle.ts_sheets.specs.Range.{is_within, within_range}
+use Rattle.ts_row.specs.Row.{Element}
+use Rattle.ts_sheets.specs.Stamped.{all_in, is_within, within_range}
 use Rattle.ts_sheets.proofs.OrderLemmas.{all_in-append}
 use Rattle.ts_clip.proofs.ChainPageLemmas.{PageIn}
 

@@ -9,12 +9,11 @@ use Rattle.std.proofs.Math.Seq.{drop-append-add}
 use Rattle.ts_space.specs.declared.place.Place.{Place}
 use Rattle.ts_space.specs.Place.{AreAbove, count_of}
 use Rattle.ts_row.specs.declared.kind.Column.{Column}
-use Rattle.ts_row.specs.Element.{Element, seen, has_hidden}
+use Rattle.ts_row.specs.Row.{Element, seen, has_hidden}
 use Rattle.ts_cells.specs.IrregularPage.{AreInOrder}
 use Rattle.ts_irregular.specs.OnePage.{IsOn}
-use Rattle.ts_sheets.specs.Chain.{all_in, AreEarlier, AreLater, ArePages}
+use Rattle.ts_sheets.specs.Stamped.{all_in, AreEarlier, AreLater, ArePages, is_within, within_range}
 use Rattle.ts_sheets.specs.Places.{AreChained}
-use Rattle.ts_sheets.specs.Range.{is_within, within_range}
 use Rattle.ts_sheets.proofs.OrderLemmas.{all_in-append, elements_back, elements_front, rising_back, rising_front, pages_in_order, pages_made}
 use Rattle.ts_chain.proofs.PlaceLemmas.{chain_later}
 use Rattle.ts_series.specs.Ends.{EndsAt, IsRange}

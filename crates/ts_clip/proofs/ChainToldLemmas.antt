@@ -7,19 +7,17 @@ use Rattle.ts_space.specs.declared.place.Place.{Place}
 use Rattle.ts_space.specs.Place.{count_of}
 use Rattle.ts_page.specs.Pages.{Contents}
 use Rattle.ts_row.specs.declared.kind.Column.{Column}
-use Rattle.ts_row.specs.Element.{Element, seen}
+use Rattle.ts_row.specs.Row.{Element, seen}
 use Rattle.ts_cells.specs.IrregularPage.{AreInOrder}
 use Rattle.ts_irregular.specs.Call.{Reads}
-use Rattle.ts_sheets.specs.Chain.{all_in}
+use Rattle.ts_sheets.specs.Stamped.{all_in, is_within, within_range}
 use Rattle.ts_sheets.specs.Places.{AreChained}
-use Rattle.ts_sheets.specs.Range.{is_within, within_range}
 use Rattle.ts_sheets.proofs.OrderLemmas.{pages_in_order}
 use Rattle.ts_series.proofs.ChainLemmas.{counted}
 use Rattle.ts_series.proofs.KeepLemmas.{chained_since}
 use Rattle.ts_series.proofs.RangeLemmas.{filter_in_order}
 use Rattle.ts_series.proofs.WrittenLemmas.{few_elements}
-use Rattle.ts_entry.specs.Entry.{Entry, filled, AreTaken}
-use Rattle.ts_entry.specs.Reading.{last_ones}
+use Rattle.ts_entry.specs.Entry.{Entry, filled, AreTaken, last_ones}
 use Rattle.ts_clip.specs.declared.chain_cells.Wanted.{Wanted}
 use Rattle.ts_clip.specs.Series.{HaveChain}
 use Rattle.ts_clip.specs.Chain.{HaveRange, ArePassed}

@@ -8,8 +8,7 @@ use Rattle.ts_space.specs.declared.place.Place.{Place}
 use Rattle.ts_space.specs.Place.{AreAbove, IsRising}
 use Rattle.ts_row.specs.declared.kind.Column.{Column}
 use Rattle.ts_row.specs.Row.{Row}
-use Rattle.ts_regular.specs.Cell.{base_of, regular_room}
-use Rattle.ts_regular.specs.Offsets.{OffsetElement, elements_from}
+use Rattle.ts_regular.specs.RegularPage.{base_of, regular_room, OffsetElement, elements_from}
 use Rattle.ts_regular.specs.Places.{OffsetPage, all_in, AreOn}
 use Rattle.ts_regular.specs.Cut.{AreNotBelow}
 use Rattle.ts_regular.proofs.OffsetLemmas.{AreLess, AreMore, more_both}

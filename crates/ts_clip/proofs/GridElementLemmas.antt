@@ -8,23 +8,20 @@ use Rattle.std.proofs.lemmas.List.{drop_all, drop_more}
 use Rattle.std.proofs.lemmas.List.Elements.{filter_map-append}
 use Rattle.std.proofs.lemmas.Option.{slice_get-get_or, slice_get_past}
 use Rattle.std.proofs.Math.Seq.{take-nil}
-use Rattle.ts_row.specs.Row.{Row}
-use Rattle.ts_row.specs.Element as elements
-use Rattle.ts_row.specs.Element.{Element}
-use Rattle.ts_calendar.specs.Intervals.{IsLaid}
+use Rattle.ts_row.specs.Row.{Row, Element}
+use Rattle.ts_row.specs.Row as elements
+use Rattle.ts_calendar.specs.Calendars.{IsLaid}
 use Rattle.ts_offset.specs.Grid.{GridPlan, starts_of, stamp_of}
-use Rattle.ts_regular.specs.Cell.{Cell}
-use Rattle.ts_regular.specs.Offsets.{OffsetElement, elements_from, seen}
+use Rattle.ts_regular.specs.RegularPage.{Cell, OffsetElement, elements_from, seen}
 use Rattle.ts_space.specs.declared.place.Place.{Place}
 use Rattle.ts_row.specs.declared.kind.Column.{Column}
 use Rattle.ts_regular.specs.Places.{OffsetPage, all_in}
 use Rattle.ts_regular.specs.Range.{is_between, within}
 use Rattle.ts_regular.specs.OnePage.{cell_at}
 use Rattle.ts_regular.proofs.PlaceLemmas.{all_both}
-use Rattle.ts_sheets.specs.Range.{within_range}
+use Rattle.ts_sheets.specs.Stamped.{within_range, stamped, stamped_one, HaveStarts}
 use Rattle.ts_regular_edits.specs.Range.{AreOffsetsOf}
 use Rattle.ts_regular_edits.proofs.RangeLemmas.{within_stamped}
-use Rattle.ts_sheets.specs.Stamped.{stamped, stamped_one, HaveStarts}
 use Rattle.ts_regular_edits.proofs.StampLemmas.{stamped_cons}
 use Rattle.ts_entry.specs.Entry.{Entry, element_of, elements_of}
 use Rattle.ts_clip.specs.Numbered.{numbered, seen_in}

@@ -5,16 +5,14 @@ use Rattle.std.specs.Option.{option_and_then, option_map}
 use Rattle.std.proofs.lemmas.List.Elements.{All-head}
 use Rattle.ts_space.specs.declared.place.Place.{Place}
 use Rattle.ts_row.specs.declared.kind.Column.{Column}
-use Rattle.ts_row.specs.Row.{Row}
-use Rattle.ts_row.specs.Element.{Element}
+use Rattle.ts_row.specs.Row.{Row, Element}
 use Rattle.ts_offset.specs.Grid.{GridPlan, stamp_of}
-use Rattle.ts_regular.specs.Cell.{Cell}
-use Rattle.ts_regular.specs.Offsets.{OffsetElement, elements_from, seen}
+use Rattle.ts_regular.specs.RegularPage.{Cell, OffsetElement, elements_from, seen}
 use Rattle.ts_regular.specs.Places.{OffsetPage, all_in}
 use Rattle.ts_regular.specs.OnePage.{cell_at, is_seen}
 use Rattle.ts_sheets.specs.Stamped.{stamped, stamped_one, HaveStarts}
 use Rattle.ts_regular_edits.proofs.StampLemmas.{some_start, stamped_cons}
-use Rattle.ts_entry.specs.Reading.{first_seen}
+use Rattle.ts_entry.specs.Entry.{first_seen}
 use Rattle.ts_clip.specs.Grid.{first_of}
 use Rattle.ts_clip.proofs.GridPlaceLemmas.{PageAt}
 use Rattle.ts_clip.proofs.GridSeenLemmas.{seen_both}

@@ -7,7 +7,7 @@ use Rattle.std.proofs.lemmas.Bool.{cases_lt}
 use Rattle.std.proofs.lemmas.Bool.Decides.{nat_tests}
 use Rattle.std.proofs.lemmas.Int.{by_lt_z, ints}
 use Rattle.std.proofs.lemmas.Option.{slice_get-map, slice_get_within}
-use Rattle.ts_calendar.specs.Intervals.{IsLaid}
+use Rattle.ts_calendar.specs.Calendars.{IsLaid}
 use Rattle.ts_space.proofs.PlaceLemmas.{int_lt_yes, int_lt_no}
 use Rattle.ts_offset.specs.Grid.{GridPlan, starts_before, starts_of, stamp_of}
 use Rattle.ts_row.specs.Row.{Row}
@@ -15,8 +15,7 @@ use Rattle.ts_regular.specs.Range.{is_between}
 use Rattle.ts_regular_edits.specs.Range.{AreOffsetsOf, AreUpTo}
 use Rattle.ts_regular_edits.proofs.RangeLemmas.{offsets_of, one_start}
 use Rattle.ts_sheets.proofs.StartLemmas.{stamps_rise}
-use Rattle.ts_entry.specs.Entry.{Entry}
-use Rattle.ts_entry.specs.Reading.{clipped, counted}
+use Rattle.ts_entry.specs.Entry.{Entry, clipped, counted}
 use Rattle.ts_clip.specs.Grid.{AreAtStarts, between}
 use Rattle.ts_clip.proofs.GridFilterLemmas.{filter_between, part_first, part_last, part_within}
 use Rattle.ts_clip.proofs.GridStampLemmas.{start_behind}

@@ -5,11 +5,9 @@ use borrow.Rule.Slice.PartMut.{mid_of}
 use Rattle.ts_space.specs.declared.place.Place.{Place}
 use Rattle.ts_row.specs.declared.kind.Column.{Column}
 use Rattle.ts_row.specs.Row.{Row}
-use Rattle.ts_regular.specs.RegularPage.{behind_head}
+use Rattle.ts_regular.specs.RegularPage.{behind_head, Cell, elements_from}
 use Rattle.ts_regular.specs.Places.{OffsetPage, IsOn}
 use Rattle.ts_regular.proofs.HeadLemmas.{behind_told, length-page, part_behind}
-use Rattle.ts_regular.specs.Cell.{Cell}
-use Rattle.ts_regular.specs.Offsets.{elements_from}
 use Rattle.ts_regular.specs.OnePage.{cell_at}
 use Rattle.ts_clip.specs.Numbered.{numbered, seen_at, seen_in}
 use Rattle.ts_clip.proofs.GridStartLemmas.{few_taken}

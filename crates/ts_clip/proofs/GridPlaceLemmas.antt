@@ -4,8 +4,7 @@ use Rattle.ts_space.specs.declared.place.Place.{Place}
 use Rattle.ts_space.specs.Place.{AreAbove, IsRising}
 use Rattle.ts_row.specs.declared.kind.Column.{Column}
 use Rattle.ts_row.specs.Row.{Row}
-use Rattle.ts_regular.specs.Cell.{regular_room}
-use Rattle.ts_regular.specs.Offsets.{elements_from}
+use Rattle.ts_regular.specs.RegularPage.{regular_room, elements_from}
 use Rattle.ts_regular.specs.Places.{OffsetPage, all_in, IsOn, AreOn}
 use Rattle.ts_regular.proofs.OffsetLemmas.{AreMore}
 use Rattle.ts_regular.proofs.PlaceLemmas.{pages_more}

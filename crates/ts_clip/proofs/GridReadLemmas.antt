@@ -7,13 +7,12 @@ use Rattle.ts_base.specs.declared.refusal.Refusal.TheVariants.{TooLarge}
 use Rattle.ts_page.specs.Pages.{Contents, EqualPages}
 use Rattle.ts_space.specs.declared.place.Place.{Place}
 use Rattle.ts_row.specs.declared.kind.Column.{Column}
-use Rattle.ts_row.specs.Element.{Element}
-use Rattle.ts_calendar.specs.Intervals.{IsLaid}
+use Rattle.ts_row.specs.Row.{Element}
+use Rattle.ts_calendar.specs.Calendars.{IsLaid}
 use Rattle.ts_offset.specs.Grid.{GridPlan}
 use Rattle.ts_offset.specs.declared.shape.Shape.TheVariants.{Regular}
 use Rattle.ts_regular.specs.Places.{OffsetPage, ArePlaces, AreOn, CanBeRead, IsOn, IsPlace, all_in}
-use Rattle.ts_entry.specs.Entry.{Entry, AreTaken}
-use Rattle.ts_entry.specs.Reading.{reading}
+use Rattle.ts_entry.specs.Entry.{Entry, AreTaken, reading}
 use Rattle.ts_base.specs.Answer.{most_rows, within_rows}
 use Rattle.ts_clip.specs.Call.{IsRead}
 use Rattle.ts_clip.specs.Series.{HaveCells}

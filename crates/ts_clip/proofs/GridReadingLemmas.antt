@@ -6,17 +6,16 @@ use Rattle.std.proofs.lemmas.Bool.Decides.{nat_tests}
 use Rattle.std.proofs.lemmas.List.{length-map, length-take-le}
 use Rattle.std.proofs.lemmas.List.Elements.{All-head, All-tail}
 use Rattle.std.proofs.lemmas.Option.{slice_get_within, get_or_from_slice_get}
-use Rattle.ts_calendar.specs.Intervals.{IsLaid}
+use Rattle.ts_calendar.specs.Calendars.{IsLaid}
 use Rattle.ts_offset.specs.Grid.{GridPlan, starts_of, stamp_of}
 use Rattle.ts_offset.specs.declared.shape.Shape.TheVariants.{Regular}
-use Rattle.ts_row.specs.Element.{Element, seen}
+use Rattle.ts_row.specs.Row.{Element, seen}
 use Rattle.ts_irregular.specs.Edit.{last_of, last_seen}
-use Rattle.ts_regular.specs.Offsets as offsets
-use Rattle.ts_regular.specs.Offsets.{OffsetElement}
+use Rattle.ts_regular.specs.RegularPage as offsets
+use Rattle.ts_regular.specs.RegularPage.{OffsetElement}
 use Rattle.ts_sheets.specs.Stamped.{stamped, stamped_one, HaveStarts}
 use Rattle.ts_regular_edits.proofs.StampLemmas.{some_start, stamped_cons}
-use Rattle.ts_entry.specs.Entry.{Entry}
-use Rattle.ts_entry.specs.Reading.{entry_at, is_reached, reading}
+use Rattle.ts_entry.specs.Entry.{Entry, entry_at, is_reached, reading}
 use Rattle.ts_clip.specs.Grid.{AreAtStarts, between}
 use Rattle.ts_clip.proofs.GridFilterLemmas.{filter_between, part_mapped, part_taken}
 use Rattle.ts_clip.proofs.GridOffsetLemmas.{up_to_own, upper_side}

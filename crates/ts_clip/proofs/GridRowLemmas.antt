@@ -4,8 +4,7 @@ use Rattle.std.proofs.lemmas.Bool.Decides.{nat_tests}
 use Rattle.std.proofs.lemmas.List.{take-append-drop, take_at, drop_at}
 use Rattle.std.proofs.lemmas.List.Elements.{All-filter, All-take, All-drop, filter_map-append}
 use Rattle.ts_offset.specs.Grid.{GridPlan, stamp_of}
-use Rattle.ts_regular.specs.Cell.{Cell}
-use Rattle.ts_regular.specs.Offsets.{OffsetElement, elements_from}
+use Rattle.ts_regular.specs.RegularPage.{Cell, OffsetElement, elements_from}
 use Rattle.ts_regular.specs.Places.{OffsetPage, all_in}
 use Rattle.ts_regular.specs.Range.{is_between, within}
 use Rattle.ts_regular.proofs.PlaceLemmas.{all_both}

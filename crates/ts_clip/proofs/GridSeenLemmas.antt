@@ -3,8 +3,7 @@ use Rattle.std.proofs.Common.{◌≡◌, ℕ, zero, suc, ◌+◌, ◌<◌, ◌�
 use Rattle.std.specs.Ordering.{is_eq, nat_cmp}
 use Rattle.std.proofs.lemmas.List.Elements.{filter-append}
 use Rattle.ts_row.specs.Row.{Row}
-use Rattle.ts_regular.specs.Cell.{Cell}
-use Rattle.ts_regular.specs.Offsets.{OffsetElement, element_at, elements_from, seen}
+use Rattle.ts_regular.specs.RegularPage.{Cell, OffsetElement, element_at, elements_from, seen}
 use Rattle.ts_regular.specs.OnePage.{cell_at}
 use Rattle.ts_regular.proofs.OffsetLemmas.{AreLess, AreMore, at_below, at_same, none_more}
 use Rattle.ts_regular.proofs.CellsLemmas.{less_cells, more_cells}

@@ -2,16 +2,15 @@
 use Rattle.std.proofs.Common.{◌≡◌, ℕ, zero, suc, ◌+◌, ℤ, Bool, true, false, cond, not, Option, Some, IsSome, List, [], ◌∷◌, map, take, drop, refl, sym, ap, ◌∙◌, arith}
 use Rattle.std.specs.List.{slice_get}
 use Rattle.std.proofs.lemmas.List.Elements.{All-filter, All-head, All-tail}
-use Rattle.ts_row.specs.Row.{Row}
-use Rattle.ts_row.specs.Element.{Element, seen}
+use Rattle.ts_row.specs.Row.{Row, Element, seen}
 use Rattle.ts_irregular.specs.Edit.{element_at}
-use Rattle.ts_calendar.specs.Intervals.{IsLaid}
+use Rattle.ts_calendar.specs.Calendars.{IsLaid}
 use Rattle.ts_offset.specs.Grid.{GridPlan, starts_of, stamp_of}
-use Rattle.ts_regular.specs.Offsets as offsets
-use Rattle.ts_regular.specs.Offsets.{OffsetElement}
+use Rattle.ts_regular.specs.RegularPage as offsets
+use Rattle.ts_regular.specs.RegularPage.{OffsetElement}
 use Rattle.ts_sheets.specs.Stamped.{stamped, HaveStarts}
 use Rattle.ts_regular_edits.proofs.StampLemmas.{found_stamped, some_start, stamped_cons}
-use Rattle.ts_entry.specs.Reading.{entry_at}
+use Rattle.ts_entry.specs.Entry.{entry_at}
 use Rattle.ts_clip.specs.Numbered.{numbered, seen_at}
 
 -- the elements that aren't hidden

@@ -3,8 +3,7 @@ use Rattle.std.proofs.Common.{◌≡◌, ◌⊎◌, ℕ, ◌+◌, ◌<◌, ◌�
 use Rattle.std.proofs.lemmas.Bool.{cases_lt}
 use Rattle.std.proofs.lemmas.Bool.Decides.{nat_tests}
 use Rattle.std.proofs.lemmas.List.Elements.{filter-append}
-use Rattle.ts_regular.specs.Cell.{Cell}
-use Rattle.ts_regular.specs.Offsets.{OffsetElement, elements_from, seen}
+use Rattle.ts_regular.specs.RegularPage.{Cell, OffsetElement, elements_from, seen}
 use Rattle.ts_regular.specs.Range.{is_between, within}
 use Rattle.ts_regular.proofs.OffsetLemmas.{AreLess, AreMore}
 

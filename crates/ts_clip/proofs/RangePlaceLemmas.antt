@@ -7,18 +7,16 @@ use Rattle.std.proofs.lemmas.List.Sums.{sum_by-append}
 use Rattle.ts_space.specs.declared.place.Place.{Place}
 use Rattle.ts_space.specs.Place.{count_of}
 use Rattle.ts_row.specs.declared.kind.Column.{Column}
-use Rattle.ts_row.specs.Element.{Element}
-use Rattle.ts_calendar.specs.Intervals.{IsLaid}
+use Rattle.ts_row.specs.Row.{Element}
+use Rattle.ts_calendar.specs.Calendars.{IsLaid}
 use Rattle.ts_offset.specs.Grid.{GridPlan, stamp_of}
 use Rattle.ts_offset.specs.declared.shape.Shape.{Shape}
 use Rattle.ts_offset.specs.declared.shape.Shape.TheVariants.{Irregular, Regular}
-use Rattle.ts_regular.specs.Offsets.{OffsetElement}
+use Rattle.ts_regular.specs.RegularPage.{OffsetElement}
 use Rattle.ts_regular.specs.Places.{all_in as all_at}
-use Rattle.ts_sheets.specs.Chain.{all_in}
+use Rattle.ts_sheets.specs.Stamped.{all_in, within_range, stamped, HaveStarts}
 use Rattle.ts_sheets.specs.Places.{AreChained}
-use Rattle.ts_sheets.specs.Range.{within_range}
 use Rattle.ts_regular_edits.specs.Range.{AreOffsetsOf}
-use Rattle.ts_sheets.specs.Stamped.{stamped, HaveStarts}
 use Rattle.ts_regular_edits.proofs.RangeLemmas.{within_stamped}
 use Rattle.ts_clip.specs.Between.{AreBetween}
 use Rattle.ts_clip.specs.Chain.{HaveRange}

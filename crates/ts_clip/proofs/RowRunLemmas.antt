@@ -5,14 +5,10 @@ use Rattle.std.proofs.lemmas.Grind.{flat_map-append}
 use Rattle.std.proofs.lemmas.List.{take-append-drop, take_at, drop_at, length-take, length-take-le}
 use Rattle.std.proofs.lemmas.List.Concat.{flat_map-cons}
 use Rattle.ts_row.specs.declared.kind.Column.{Column}
-use Rattle.ts_row.specs.Row.{Row}
-use Rattle.ts_row.specs.RowType.{width_of}
-use Rattle.ts_row.specs.Element.{Element}
-use Rattle.ts_cells.specs.Cell.{cell_bytes as element_bytes, cell_size as element_size}
-use Rattle.ts_cells.specs.IrregularPage.{AreElements, cells_bytes as element_cells, behind_head as chain_behind}
+use Rattle.ts_row.specs.Row.{Row, width_of, Element}
+use Rattle.ts_cells.specs.IrregularPage.{cell_bytes as element_bytes, cell_size as element_size, AreElements, cells_bytes as element_cells, behind_head as chain_behind}
 use Rattle.ts_cells.proofs.PageLemmas.{length-cell_bytes, length-cells_bytes}
-use Rattle.ts_regular.specs.Cell.{Cell, FitsCell, cell_bytes, cell_size}
-use Rattle.ts_regular.specs.RegularPage.{AreCells, cells_bytes, behind_head as grid_behind}
+use Rattle.ts_regular.specs.RegularPage.{Cell, FitsCell, cell_bytes, cell_size, AreCells, cells_bytes, behind_head as grid_behind}
 use Rattle.ts_regular.proofs.BytesLemmas.{length-cell, length-cells}
 use Rattle.ts_entry.specs.Rows.{IsCellWith, AreCellsWith}
 

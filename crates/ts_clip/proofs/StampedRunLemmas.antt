@@ -7,16 +7,12 @@ use Rattle.std.proofs.lemmas.List.{take_at, drop_at}
 use Rattle.std.proofs.lemmas.List.Concat.{flat_map-cons}
 use Rattle.std.proofs.lemmas.List.Elements.{All-head, All-tail}
 use Rattle.ts_row.specs.declared.kind.Column.{Column}
-use Rattle.ts_row.specs.Row.{Row}
-use Rattle.ts_row.specs.RowType.{width_of}
-use Rattle.ts_row.specs.Element.{Element}
-use Rattle.ts_cells.specs.Cell.{cell_bytes as element_bytes, stamp_bytes}
-use Rattle.ts_cells.specs.IrregularPage.{AreElements, cells_bytes as element_cells}
+use Rattle.ts_row.specs.Row.{Row, width_of, Element}
+use Rattle.ts_cells.specs.IrregularPage.{cell_bytes as element_bytes, stamp_bytes, AreElements, cells_bytes as element_cells}
 use Rattle.ts_cells.proofs.PageLemmas.{length-cell_bytes}
-use Rattle.ts_calendar.specs.Intervals.{IsLaid}
+use Rattle.ts_calendar.specs.Calendars.{IsLaid}
 use Rattle.ts_offset.specs.Grid.{GridPlan, stamp_of}
-use Rattle.ts_regular.specs.Cell.{Cell}
-use Rattle.ts_regular.specs.Offsets.{OffsetElement, elements_from}
+use Rattle.ts_regular.specs.RegularPage.{Cell, OffsetElement, elements_from}
 use Rattle.ts_sheets.specs.Stamped.{stamped, stamped_one, HaveStarts}
 use Rattle.ts_regular_edits.proofs.StampLemmas.{some_start}
 use Rattle.ts_entry.specs.declared.stamps.Stamps.TheVariants.{InCells, OnGrid}

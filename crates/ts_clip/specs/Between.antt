@@ -3,7 +3,7 @@ use Rattle.std.specs.Prelude.{◌≡◌, ℕ, pos, List, ◌++◌}
 use Rattle.ts_space.specs.declared.place.Place.{Place}
 use Rattle.ts_space.specs.Place.{AreBelow}
 use Rattle.ts_row.specs.declared.kind.Column.{Column}
-use Rattle.ts_regular.specs.Cell.{base_of}
+use Rattle.ts_regular.specs.RegularPage.{base_of}
 use Rattle.ts_regular.specs.Cut.{AreNotBelow}
 
 -- of some places those whose pages may have a cell for an offset from one up to, not including, another: they begin

@@ -1,8 +1,8 @@
 -- What the calls read of the pages of a series.
 use Rattle.std.specs.Prelude.{◌≡◌, ℕ, ℤ, Bool, false, IsTrue, Result, Ok, Err, List, []}
 use Rattle.ts_base.specs.declared.refusal.Refusal.{Refusal}
-use Rattle.ts_row.specs.Element.{Element, seen, has_hidden}
-use Rattle.ts_sheets.specs.Range.{within_range}
+use Rattle.ts_row.specs.Row.{Element, seen, has_hidden}
+use Rattle.ts_sheets.specs.Stamped.{within_range}
 use Rattle.ts_entry.specs.Entry.{Entry, elements_of, AreTaken}
 
 -- entries were taken, as many as they are; or they are refused, and none was taken

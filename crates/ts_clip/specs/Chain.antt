@@ -6,14 +6,13 @@ use Rattle.ts_space.specs.declared.place.Place.{Place}
 use Rattle.ts_space.specs.Directory.{Directory, places_of}
 use Rattle.ts_page.specs.Pages.{Contents}
 use Rattle.ts_row.specs.declared.kind.Column.{Column}
-use Rattle.ts_row.specs.Element.{Element}
+use Rattle.ts_row.specs.Row.{Element}
 use Rattle.ts_row.specs.declared.row.Shelf.{Shelf}
 use Rattle.ts_offset.specs.declared.shape.Shape.TheVariants.{Irregular}
 use Rattle.ts_irregular.specs.Call as one_page
 use Rattle.ts_cells.specs.IrregularPage.{AreElements, AreInOrder, behind_head}
-use Rattle.ts_sheets.specs.Chain.{all_in, ArePages}
+use Rattle.ts_sheets.specs.Stamped.{all_in, ArePages, within_range}
 use Rattle.ts_sheets.specs.Places.{AreChained}
-use Rattle.ts_sheets.specs.Range.{within_range}
 use Rattle.ts_series.specs.Ends.{EndsAt, OthersAreAbove}
 use Rattle.ts_entry.specs.Entry.{Entry, filled}
 use Rattle.ts_clip.specs.Series.{IsTold}

@@ -3,18 +3,17 @@ use Rattle.std.specs.Prelude.{◌≡◌, ℕ, ◌-◌, Bool, Option, List, lengt
 use Rattle.ts_space.specs.declared.place.Place.{Place}
 use Rattle.ts_space.specs.Directory.{Directory, places_of}
 use Rattle.ts_page.specs.Pages.{Contents}
-use Rattle.ts_row.specs.Element.{Element, seen}
+use Rattle.ts_row.specs.Row.{Element, seen}
 use Rattle.ts_row.specs.declared.row.Shelf.{Shelf}
 use Rattle.ts_offset.specs.Grid.{GridPlan, starts_of}
 use Rattle.ts_offset.specs.declared.shape.Shape.TheVariants.{Regular}
 use Rattle.ts_regular.specs.Call as regular
-use Rattle.ts_regular.specs.Offsets.{OffsetElement, seen as seen_of}
+use Rattle.ts_regular.specs.RegularPage.{OffsetElement, seen as seen_of}
 use Rattle.ts_regular.specs.OnePage.{IsToldOn}
 use Rattle.ts_regular.specs.Places.{OffsetPage}
 use Rattle.ts_regular.specs.Range.{within}
 use Rattle.ts_sheets.specs.Stamped.{stamped}
-use Rattle.ts_entry.specs.Entry.{Entry, elements_of}
-use Rattle.ts_entry.specs.Reading.{entry_at}
+use Rattle.ts_entry.specs.Entry.{Entry, elements_of, entry_at}
 use Rattle.ts_clip.specs.Series.{IsTold}
 
 -- entries stand at the first on starts of a grid, one at each

@@ -3,8 +3,7 @@ use Rattle.std.specs.Prelude.{◌≡◌, ℕ, ◌+◌, ◌<◌, ℤ, false, IsTr
 use Rattle.std.specs.Prelude.{length}
 use Rattle.ts_row.specs.Row.{Row}
 use Rattle.ts_irregular.specs.Edit.{row_if_seen}
-use Rattle.ts_regular.specs.Cell.{Cell}
-use Rattle.ts_regular.specs.Offsets.{OffsetElement, element_at, seen}
+use Rattle.ts_regular.specs.RegularPage.{Cell, OffsetElement, element_at, seen}
 use Rattle.ts_regular.specs.OnePage.{cell_at, is_seen}
 use Rattle.ts_entry.specs.Entry.{Entry}
 

@@ -4,17 +4,15 @@ use Rattle.std.specs.Prelude.{◌≡◌, ℕ, ◌≤◌, ℤ, Bool, IsTrue, All,
 use Rattle.std.specs.List.{AllZip}
 use Rattle.ts_page.specs.declared.page.Page.{Page}
 use Rattle.ts_space.specs.Place.{count_of}
-use Rattle.ts_sheets.specs.Range.{within_range}
+use Rattle.ts_sheets.specs.Stamped.{within_range, IsChain, all_in, stamped, HaveStarts}
 use Rattle.ts_page.specs.Pages.{Contents}
 use Rattle.ts_row.specs.declared.kind.Column.{Column}
-use Rattle.ts_row.specs.Element.{Element}
+use Rattle.ts_row.specs.Row.{Element}
 use Rattle.ts_space.specs.declared.place.Place.{Place}
-use Rattle.ts_sheets.specs.Chain.{IsChain, all_in}
 use Rattle.ts_sheets.specs.Places.{AreChained}
 use Rattle.ts_sheets.specs.Places as chain
 use Rattle.ts_regular.specs.Places.{OffsetPage, AreOn, all_in as all_at}
 use Rattle.ts_regular.specs.Places as regular
-use Rattle.ts_sheets.specs.Stamped.{stamped, HaveStarts}
 use Rattle.ts_offset.specs.Grid.{GridPlan}
 use Rattle.ts_offset.specs.declared.shape.Shape.{Shape}
 use Rattle.ts_offset.specs.declared.shape.Shape.TheVariants.{Irregular, Regular}

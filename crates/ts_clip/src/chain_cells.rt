@@ -2,14 +2,11 @@
 // hidden is found.
 ghost use Rattle.std.specs.Prelude.{◌≡◌, ◌-◌, ◌<◌, ◌≤◌, IsTrue, IfOk, IfSome, Some, List, [], ◌∷◌, length, take, drop};
 ghost use Rattle.std.specs.Prelude.{slice_get};
-ghost use Rattle.ts_row.specs.Row.{fits};
-ghost use Rattle.ts_row.specs.Element.{Element, seen};
-ghost use Rattle.ts_cells.specs.Cell.{IsElement, cell_bytes, cell_size, page_room};
-ghost use Rattle.ts_cells.specs.IrregularPage.{AreElements, behind_head};
-ghost use Rattle.ts_sheets.specs.Placing.{earlier};
-ghost use Rattle.ts_sheets.specs.Range.{within_range};
+ghost use Rattle.ts_row.specs.Row.{fits, Element, seen};
+ghost use Rattle.ts_cells.specs.IrregularPage.{IsElement, cell_bytes, cell_size, page_room, AreElements, behind_head};
+ghost use Rattle.ts_sheets.specs.Stamped.{earlier, within_range};
 ghost use Rattle.ts_series.specs.Ends.{later};
-ghost use Rattle.ts_entry.specs.Reading.{first_seen};
+ghost use Rattle.ts_entry.specs.Entry.{first_seen};
 ghost use Rattle.ts_clip.specs.Chain.{ArePassed, HoldsOfCells, HoldsOfMore};
 
 use std::alloc::AllocError;

@@ -4,7 +4,7 @@ ghost use Rattle.ts_row.specs.Row.{fits};
 ghost use Rattle.ts_space.specs.Directory.{places_of};
 ghost use Rattle.ts_irregular.specs.Call.{Reads};
 ghost use Rattle.ts_sheets.specs.Places.{ArePlaces, CanBeRead};
-ghost use Rattle.ts_entry.specs.Reading.{first_seen};
+ghost use Rattle.ts_entry.specs.Entry.{first_seen};
 ghost use Rattle.ts_clip.specs.Chain.{HoldsOfChain, HoldsOfPage};
 
 use crate::chain_cells::first_among;

@@ -1,10 +1,9 @@
 // The pages of an irregular series, read one after the other: their elements of a range are handed on or counted.
 ghost use Rattle.std.specs.Prelude.{◌≡◌, ◌⊎◌, ◌-◌, ◌^◌, ◌≤◌, IfOk, All, length, min, drop};
-ghost use Rattle.ts_row.specs.Element.{seen};
+ghost use Rattle.ts_row.specs.Row.{seen};
 ghost use Rattle.ts_irregular.specs.Call.{Reads};
-ghost use Rattle.ts_sheets.specs.Chain.{all_in};
+ghost use Rattle.ts_sheets.specs.Stamped.{all_in, within_range};
 ghost use Rattle.ts_sheets.specs.Places.{CanBeRead};
-ghost use Rattle.ts_sheets.specs.Range.{within_range};
 ghost use Rattle.ts_clip.specs.Chain.{ArePassed, HoldsOfPages, HoldsOfPage};
 
 use crate::chain_cells::{Wanted, count_cells, range_on, visit_cells};

@@ -1,12 +1,12 @@
 // The rows of an irregular series, a page at a time.
 ghost use Rattle.std.specs.Prelude.{◌≡◌, ◌-◌, ◌≤◌, ℕ, All, IfOk, OnOk, List, length, take, drop};
-ghost use Rattle.ts_row.specs.Element.{Element};
-ghost use Rattle.ts_cells.specs.Cell.{page_room};
+ghost use Rattle.ts_row.specs.Row.{Element};
+ghost use Rattle.ts_cells.specs.IrregularPage.{page_room};
 ghost use Rattle.ts_offset.specs.declared.shape.Shape.TheVariants.{Irregular};
 ghost use Rattle.ts_irregular.specs.Call.{Reads};
 ghost use Rattle.ts_irregular.specs.OnePage.{IsOn};
 ghost use Rattle.ts_sheets.specs.Places.{CanBeRead};
-ghost use Rattle.ts_sheets.specs.Range.{within_range};
+ghost use Rattle.ts_sheets.specs.Stamped.{within_range};
 ghost use Rattle.ts_clip.specs.Chain.{HoldsOfMore, HoldsOfPage};
 ghost use Rattle.ts_clip.specs.Series.{HaveOnPlaces, IsToldOnPlaces, ArePagesOf};
 

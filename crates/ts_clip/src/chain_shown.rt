@@ -2,11 +2,10 @@
 // read of which the elements are only counted or passed over.
 ghost use Rattle.std.specs.Prelude.{◌≡◌, ◌+◌, ◌-◌, ◌^◌, ◌≤◌, false, IfOk, All, length, min, take};
 ghost use Rattle.ts_space.specs.Place.{count_of};
-ghost use Rattle.ts_row.specs.Element.{has_hidden};
+ghost use Rattle.ts_row.specs.Row.{has_hidden};
 ghost use Rattle.ts_irregular.specs.Call.{Reads};
-ghost use Rattle.ts_sheets.specs.Chain.{ArePages, all_in};
+ghost use Rattle.ts_sheets.specs.Stamped.{ArePages, all_in, within_range};
 ghost use Rattle.ts_sheets.specs.Places.{CanBeRead};
-ghost use Rattle.ts_sheets.specs.Range.{within_range};
 ghost use Rattle.ts_clip.specs.Chain.{AreBounded, HoldsOfPages};
 
 use crate::chain_pages::count_pages;

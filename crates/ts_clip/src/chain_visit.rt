@@ -1,12 +1,11 @@
 // The elements of a range of an irregular series, handed on in one pass over its pages, or counted.
 ghost use Rattle.std.specs.Prelude.{◌≡◌, ◌<◌, ◌≤◌, ◌^◌, IfOk, IfSome, None, length, map, take};
-ghost use Rattle.ts_row.specs.Element.{seen};
+ghost use Rattle.ts_row.specs.Row.{seen};
 ghost use Rattle.ts_space.specs.Directory.{places_of};
 ghost use Rattle.ts_irregular.specs.Call.{Reads};
 ghost use Rattle.ts_sheets.specs.Places.{ArePlaces};
-ghost use Rattle.ts_sheets.specs.Range.{within_range};
-ghost use Rattle.ts_entry.specs.Entry.{AreTaken, filled};
-ghost use Rattle.ts_entry.specs.Reading.{last_ones};
+ghost use Rattle.ts_sheets.specs.Stamped.{within_range};
+ghost use Rattle.ts_entry.specs.Entry.{AreTaken, filled, last_ones};
 ghost use Rattle.ts_base.specs.Answer.{most_rows};
 ghost use Rattle.ts_clip.specs.Chain.{HoldsOfChain, first_moment};
 

@@ -4,7 +4,7 @@ ghost use Rattle.ts_row.specs.Row.{fits};
 ghost use Rattle.ts_space.specs.Directory.{places_of};
 ghost use Rattle.ts_irregular.specs.Call.{Reads};
 ghost use Rattle.ts_irregular.specs.Edit.{last_seen};
-ghost use Rattle.ts_entry.specs.Reading.{first_seen};
+ghost use Rattle.ts_entry.specs.Entry.{first_seen};
 ghost use Rattle.ts_clip.specs.Series.{ArePlaces, IsTold};
 ghost use Rattle.ts_offset.specs.Shape.{IsLaidOut};
 

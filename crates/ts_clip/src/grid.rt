@@ -2,12 +2,11 @@
 // number.
 ghost use Rattle.std.specs.Prelude.{◌≡◌, ◌<◌, ◌≤◌, ◌^◌, All, IfOk, length};
 ghost use Rattle.ts_space.specs.Directory.{places_of};
-ghost use Rattle.ts_calendar.specs.Intervals.{IsLaid};
+ghost use Rattle.ts_calendar.specs.Calendars.{IsLaid};
 ghost use Rattle.ts_offset.specs.declared.shape.Shape.TheVariants.{Regular};
 ghost use Rattle.ts_regular.specs.Places.{ArePlaces, CanBeRead};
 ghost use Rattle.ts_irregular.specs.Call.{Reads};
-ghost use Rattle.ts_entry.specs.Entry.{AreTaken};
-ghost use Rattle.ts_entry.specs.Reading.{reading, clipped, counted, entry_number};
+ghost use Rattle.ts_entry.specs.Entry.{AreTaken, reading, clipped, counted, entry_number};
 ghost use Rattle.ts_base.specs.Answer.{within_rows};
 ghost use Rattle.ts_clip.specs.Call.{IsRead};
 ghost use Rattle.ts_clip.specs.Grid.{HoldsOfGrid, between};

@@ -1,7 +1,7 @@
 // The cells behind the head of a page, each handed on at its on start.
 ghost use Rattle.std.specs.Prelude.{◌≡◌, ◌-◌, ◌<◌, ◌≤◌, OnOk, None, List, [], ◌∷◌, length, map, take, drop};
-ghost use Rattle.ts_regular.specs.Cell.{Cell, FitsCell, cell_bytes, cell_size, regular_room};
-ghost use Rattle.ts_regular.specs.RegularPage.{AreCells, HoldsOfCells, behind_head};
+ghost use Rattle.ts_regular.specs.RegularPage.{Cell, FitsCell, cell_bytes, cell_size, regular_room, AreCells};
+ghost use Rattle.ts_regular.specs.RegularPage.{HoldsOfCells, behind_head};
 ghost use Rattle.ts_regular.specs.OnePage.{cell_at, is_seen};
 ghost use Rattle.ts_clip.specs.Numbered.{numbered, seen_in};
 

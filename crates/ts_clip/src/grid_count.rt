@@ -1,12 +1,12 @@
 // How many entries a regular series has.
 ghost use Rattle.std.specs.Prelude.{◌≡◌, ◌<◌, ◌^◌, ◌+◌, ℤ, All, IfOk, IfSome, IfNone, Some, length};
 ghost use Rattle.ts_space.specs.Directory.{places_of};
-ghost use Rattle.ts_calendar.specs.Intervals.{IsLaid};
+ghost use Rattle.ts_calendar.specs.Calendars.{IsLaid};
 ghost use Rattle.ts_offset.specs.Grid.{stamp_of};
 ghost use Rattle.ts_offset.specs.declared.shape.Shape.TheVariants.{Regular};
 ghost use Rattle.ts_regular.specs.Places.{CanBeRead};
 ghost use Rattle.ts_irregular.specs.Call.{Reads};
-ghost use Rattle.ts_entry.specs.Reading.{reading};
+ghost use Rattle.ts_entry.specs.Entry.{reading};
 ghost use Rattle.ts_clip.specs.Grid.{HoldsOfGrid};
 
 use ts_base::StoreFault;

@@ -2,12 +2,12 @@
 ghost use Rattle.std.specs.Prelude.{◌≡◌, ◌<◌, All, IsTrue, IfOk, IfSome, option_and_then};
 ghost use Rattle.ts_row.specs.Row.{fits};
 ghost use Rattle.ts_space.specs.Directory.{places_of};
-ghost use Rattle.ts_calendar.specs.Intervals.{IsLaid};
+ghost use Rattle.ts_calendar.specs.Calendars.{IsLaid};
 ghost use Rattle.ts_regular.specs.Places.{ArePlaces, CanBeRead, all_in};
 ghost use Rattle.ts_sheets.specs.Stamped.{stamped_one};
 ghost use Rattle.ts_irregular.specs.Call.{Reads};
 ghost use Rattle.ts_irregular.specs.Edit.{last_seen};
-ghost use Rattle.ts_entry.specs.Reading.{first_seen};
+ghost use Rattle.ts_entry.specs.Entry.{first_seen};
 ghost use Rattle.ts_clip.specs.Grid.{HoldsOfGrid, HoldsOfCellPages, first_of};
 
 use crate::grid_first::first_on;

@@ -1,8 +1,7 @@
 // The first element on one page of a regular series that isn't hidden, and its cell.
 ghost use Rattle.std.specs.Prelude.{◌≡◌, ◌<◌, ◌^◌, IsTrue, IfOk, IfSome, List, length};
 ghost use Rattle.ts_row.specs.Row.{fits};
-ghost use Rattle.ts_regular.specs.Cell.{Cell, FitsCell, cell_bytes, cell_size, regular_room};
-ghost use Rattle.ts_regular.specs.Offsets.{elements_from};
+ghost use Rattle.ts_regular.specs.RegularPage.{Cell, FitsCell, cell_bytes, cell_size, regular_room, elements_from};
 ghost use Rattle.ts_regular.specs.RegularPage.{AreCells, HoldsOfCells, behind_head};
 ghost use Rattle.ts_regular.specs.Places.{CanBeRead};
 ghost use Rattle.ts_regular.specs.OnePage.{cell_at};

@@ -1,9 +1,8 @@
 // The offsets of the entries of a regular series that are asked for.
 ghost use Rattle.std.specs.Prelude.{◌≡◌, ◌≢◌, ◌<◌, ◌≤◌, ◌^◌, IsTrue, false, List, length};
-ghost use Rattle.ts_calendar.specs.Intervals.{IsLaid};
+ghost use Rattle.ts_calendar.specs.Calendars.{IsLaid};
 ghost use Rattle.ts_regular_edits.specs.Range.{AreOffsetsOf, AreUpTo};
-ghost use Rattle.ts_entry.specs.Entry.{Entry};
-ghost use Rattle.ts_entry.specs.Reading.{clipped, counted};
+ghost use Rattle.ts_entry.specs.Entry.{Entry, clipped, counted};
 ghost use Rattle.ts_clip.specs.Grid.{AreAtStarts, between};
 
 use ts_base::Stamp;

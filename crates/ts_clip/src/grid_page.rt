@@ -1,6 +1,6 @@
 // The page of a place, read and compared with it; and the places of a range.
 ghost use Rattle.std.specs.Prelude.{◌≡◌, ◌↔◌, ◌<◌, ◌≤◌, ◌<ℤ◌, ◌^◌, pos, IsTrue, IfOk, IfSome, IfNone, Some, length};
-ghost use Rattle.ts_page.specs.Head.{head_of};
+ghost use Rattle.ts_page.specs.Pages.{head_of};
 ghost use Rattle.ts_page.specs.declared.page.Head.TheVariants.{Regular};
 ghost use Rattle.ts_space.specs.Place.{IsRising, rank_of};
 ghost use Rattle.ts_irregular.specs.Call.{Reads};

@@ -1,11 +1,9 @@
 // The rows on one page of a regular series, with their stamps.
 ghost use Rattle.std.specs.Prelude.{◌≡◌, ◌-◌, ◌<◌, ◌≤◌, ◌^◌, OnOk, length, take, drop};
 ghost use Rattle.ts_regular.specs.Range.{within};
-ghost use Rattle.ts_regular.specs.Cell.{regular_room};
-ghost use Rattle.ts_regular.specs.Offsets.{elements_from};
-ghost use Rattle.ts_regular.specs.RegularPage.{HoldsOfCells};
+ghost use Rattle.ts_regular.specs.RegularPage.{regular_room, elements_from, HoldsOfCells};
 ghost use Rattle.ts_regular.specs.Places.{OffsetPage, CanBeRead, IsOn};
-ghost use Rattle.ts_calendar.specs.Intervals.{IsLaid};
+ghost use Rattle.ts_calendar.specs.Calendars.{IsLaid};
 ghost use Rattle.ts_irregular.specs.Call.{Reads};
 ghost use Rattle.ts_sheets.specs.Stamped.{stamped, HaveStarts};
 ghost use Rattle.ts_clip.specs.Grid.{HoldsOfCellPage};

@@ -1,7 +1,6 @@
 // The entries of a range of offsets on one page of a regular series.
 ghost use Rattle.std.specs.Prelude.{◌≡◌, ℕ, ◌-◌, ◌<◌, ◌≤◌, ◌^◌, ◌+◌, IfOk, OnOk, None, take, drop};
-ghost use Rattle.ts_regular.specs.Cell.{regular_room};
-ghost use Rattle.ts_regular.specs.Offsets.{elements_from};
+ghost use Rattle.ts_regular.specs.RegularPage.{regular_room, elements_from};
 ghost use Rattle.ts_regular.specs.Places.{CanBeRead};
 ghost use Rattle.ts_irregular.specs.Call.{Reads};
 ghost use Rattle.ts_clip.specs.Numbered.{numbered, seen_at};

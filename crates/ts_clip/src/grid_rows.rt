@@ -1,14 +1,13 @@
 // The rows of a regular series, a page at a time.
 ghost use Rattle.std.specs.Prelude.{◌<◌, ◌^◌, ℕ, All, IfOk, OnOk, List};
-ghost use Rattle.ts_row.specs.Element.{Element};
-ghost use Rattle.ts_calendar.specs.Intervals.{IsLaid};
+ghost use Rattle.ts_row.specs.Row.{Element};
+ghost use Rattle.ts_calendar.specs.Calendars.{IsLaid};
 ghost use Rattle.ts_offset.specs.declared.shape.Shape.TheVariants.{Regular};
 ghost use Rattle.ts_regular.specs.Places.{OffsetPage, AreOn, CanBeRead, all_in};
 ghost use Rattle.ts_irregular.specs.Call.{Reads};
-ghost use Rattle.ts_sheets.specs.Range.{within_range};
+ghost use Rattle.ts_sheets.specs.Stamped.{within_range, stamped, HaveStarts};
 ghost use Rattle.ts_clip.specs.Series.{HaveOnPlaces, IsToldOnPlaces, ArePagesOf};
 ghost use Rattle.ts_regular.specs.Range.{within};
-ghost use Rattle.ts_sheets.specs.Stamped.{stamped, HaveStarts};
 ghost use Rattle.ts_clip.specs.Grid.{HoldsOfCellPages};
 
 use crate::grid_offsets::{Offsets, offsets_of};

@@ -2,7 +2,7 @@
 ghost use Rattle.std.specs.Prelude.{◌≡◌, ℕ, ◌-◌, ◌<◌, ◌≤◌, ◌^◌, All, IfOk, OnOk, None, take, drop};
 ghost use Rattle.ts_space.specs.Directory.{places_of};
 ghost use Rattle.ts_space.specs.Place.{IsRising};
-ghost use Rattle.ts_calendar.specs.Intervals.{IsLaid};
+ghost use Rattle.ts_calendar.specs.Calendars.{IsLaid};
 ghost use Rattle.ts_regular.specs.Places.{CanBeRead, all_in};
 ghost use Rattle.ts_irregular.specs.Call.{Reads};
 ghost use Rattle.ts_clip.specs.Numbered.{numbered, seen_at};

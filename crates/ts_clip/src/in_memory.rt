@@ -1,11 +1,11 @@
 // The rows of pages that are in memory, and which pages of a series those of a range are.
 ghost use Rattle.std.specs.Prelude.{OnOk, ℕ, List};
 ghost use Rattle.ts_row.specs.declared.kind.Column.{Column};
-ghost use Rattle.ts_row.specs.Element.{Element};
+ghost use Rattle.ts_row.specs.Row.{Element};
 ghost use Rattle.ts_space.specs.Place.{IsRising};
-ghost use Rattle.ts_calendar.specs.Intervals.{IsLaid};
+ghost use Rattle.ts_calendar.specs.Calendars.{IsLaid};
 ghost use Rattle.ts_offset.specs.declared.shape.Shape.TheVariants.{Irregular, Regular};
-ghost use Rattle.ts_sheets.specs.Range.{within_range};
+ghost use Rattle.ts_sheets.specs.Stamped.{within_range};
 ghost use Rattle.ts_clip.specs.Series.{HaveOnPlaces, HoldRange, ArePagesOf};
 ghost use Rattle.ts_offset.specs.Shape.{IsLaidOut};
 

@@ -2,8 +2,7 @@
 ghost use Rattle.std.specs.Prelude.{◌≡◌, ◌<◌, IfOk, length};
 ghost use Rattle.ts_space.specs.Directory.{places_of};
 ghost use Rattle.ts_irregular.specs.Call.{Reads};
-ghost use Rattle.ts_entry.specs.Entry.{AreTaken};
-ghost use Rattle.ts_entry.specs.Reading.{reading, clipped, counted, entry_number};
+ghost use Rattle.ts_entry.specs.Entry.{AreTaken, reading, clipped, counted, entry_number};
 ghost use Rattle.ts_base.specs.Answer.{within_rows};
 ghost use Rattle.ts_clip.specs.Series.{ArePlaces, IsTold};
 ghost use Rattle.ts_offset.specs.Shape.{IsLaidOut};

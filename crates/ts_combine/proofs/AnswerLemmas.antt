@@ -5,14 +5,12 @@ use Rattle.ts_base.specs.declared.refusal.Refusal.{Refusal}
 use Rattle.ts_base.specs.declared.refusal.Refusal.TheVariants.{TooLarge}
 use Rattle.ts_base.specs.declared.fault.Trouble.{Trouble}
 use Rattle.ts_base.specs.declared.fault.Trouble.TheVariants.{Refused, Memory}
-use Rattle.ts_row.specs.Element.{Element}
-use Rattle.ts_calendar.specs.Plan.{CalendarPlan}
-use Rattle.ts_calendar.specs.Calendar.{common_grid}
+use Rattle.ts_row.specs.Row.{Element}
+use Rattle.ts_calendar.specs.Calendars.{CalendarPlan, common_grid}
 use Rattle.ts_calendar.specs.declared.grid.CommonGrid.{CommonGrid}
 use Rattle.ts_offset.specs.declared.shape.Shape.{Shape}
 use Rattle.ts_offset.specs.declared.shape.Shape.TheVariants.{Irregular, Regular}
-use Rattle.ts_offset.specs.Grid.{GridPlan}
-use Rattle.ts_offset.specs.Counting.{starts_between}
+use Rattle.ts_offset.specs.Grid.{GridPlan, starts_between}
 use Rattle.ts_pattern.specs.declared.junction.Junction.{Junction}
 use Rattle.ts_combine.specs.Combine.{Side, every_start, joined_on, joined_of, joined}
 use Rattle.ts_base.specs.Answer.{AnswersList, most_rows, within_rows}

@@ -5,13 +5,10 @@ use Rattle.std.specs.Int.{int_max}
 use Rattle.std.proofs.lemmas.Bool.{and_parts}
 use Rattle.std.proofs.lemmas.Int.{by_lt_z, ints, clamps}
 use Rattle.ts_base.specs.Moment.{IsStamp}
-use Rattle.ts_pattern.specs.Runs.{flag}
+use Rattle.ts_pattern.specs.Patterns.{flag}
 use Rattle.ts_pattern.proofs.RunLemmas.{lt_yes}
-use Rattle.ts_calendar.specs.Plan.{CalendarPlan}
-use Rattle.ts_calendar.specs.Intervals.{IsEarly, IsLaid, start_in, start_at, is_on, starts_from}
-use Rattle.ts_calendar.specs.Calendar.{common_grid}
+use Rattle.ts_calendar.specs.Calendars.{CalendarPlan, IsEarly, IsLaid, start_in, start_at, is_on, starts_from, common_grid, reach, near_count}
 use Rattle.ts_calendar.specs.Line.{line_at}
-use Rattle.ts_calendar.specs.First.{reach, near_count}
 use Rattle.ts_calendar.specs.declared.grid.CommonGrid.{CommonGrid}
 use Rattle.ts_calendar.proofs.StampLemmas.{int_lt_no, int_lt-false, stamp-some}
 use Rattle.ts_calendar.proofs.LineLemmas.{line-start}
@@ -19,8 +16,7 @@ use Rattle.ts_calendar.proofs.HeldLemmas.{line-order}
 use Rattle.ts_calendar.proofs.StepLemmas.{from-some}
 use Rattle.ts_calendar.proofs.LawLemmas.{starts-rise, start-near, steps-lead}
 use Rattle.ts_calendar.proofs.JoinedLemmas.{grid-parts}
-use Rattle.ts_offset.specs.Walk.{IsFirstFrom, gap, on_start, on_starts}
-use Rattle.ts_offset.specs.Counting.{starts_between}
+use Rattle.ts_offset.specs.Grid.{IsFirstFrom, gap, on_start, on_starts, starts_between}
 use Rattle.ts_offset.proofs.WindowLemmas.{on-start, gap-up, gap-none}
 use Rattle.ts_combine.specs.Combine.{every_start}
 use Rattle.ts_combine.specs.Line.{starts_up_to, AllExist}

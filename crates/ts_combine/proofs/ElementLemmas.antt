@@ -2,14 +2,12 @@
 use Rattle.std.proofs.Common.{◌≡◌, ◌∙◌, ℕ, zero, suc, ◌<◌, Bool, true, false, cond, ℤ, ◌<ℤ◌, Some, List, [], ◌∷◌, filter, slice_get, sym, ap, subst, arith}
 use Rattle.std.proofs.lemmas.Int.{by_lt_z, ints}
 use Rattle.std.proofs.lemmas.Option.{same_Some}
-use Rattle.ts_row.specs.Row.{Row}
-use Rattle.ts_row.specs.Element.{Element}
+use Rattle.ts_row.specs.Row.{Row, Element}
 use Rattle.ts_cells.specs.IrregularPage.{AreRising}
 use Rattle.ts_irregular.specs.Edit.{element_at}
 use Rattle.ts_irregular.proofs.EditLemmas.{AreRising-tail, element_at-lower, element_at-higher, element_at-same}
-use Rattle.ts_calendar.specs.Plan.{CalendarPlan}
-use Rattle.ts_offset.specs.Walk.{IsOnStart, on_starts}
-use Rattle.ts_offset.specs.Grid.{GridPlan}
+use Rattle.ts_calendar.specs.Calendars.{CalendarPlan}
+use Rattle.ts_offset.specs.Grid.{IsOnStart, on_starts, GridPlan}
 use Rattle.ts_offset.specs.declared.shape.Shape.{Shape}
 use Rattle.ts_offset.specs.declared.shape.Shape.TheVariants.{Irregular, Regular}
 use Rattle.ts_offset.proofs.ListedLemmas.{start-listed}

@@ -2,10 +2,8 @@
 use Rattle.std.proofs.Common.{◌≡◌, ◌∙◌, sym, subst, arith, ℤ, pos, ◌+ℤ◌, ◌≤ℤ◌, ◌<ℤ◌, Some, None}
 use Rattle.std.proofs.lemmas.Int.{by_lt_z, ints}
 use Rattle.std.proofs.lemmas.Option.{same_Some}
-use Rattle.ts_calendar.specs.Plan.{CalendarPlan}
-use Rattle.ts_calendar.specs.Intervals.{IsLaid, IsBefore, start_at}
-use Rattle.ts_offset.specs.Walk.{IsFirstFrom, IsOnStart}
-use Rattle.ts_offset.specs.Grid.{held_start}
+use Rattle.ts_calendar.specs.Calendars.{CalendarPlan, IsLaid, IsBefore, start_at}
+use Rattle.ts_offset.specs.Grid.{IsFirstFrom, IsOnStart, held_start}
 use Rattle.ts_offset.proofs.StartLemmas.{IsAt, on-line, at-around}
 use Rattle.ts_offset.proofs.OwnLemmas.{held-from, from-held}
 use Rattle.ts_combine.specs.Line.{AreHeldFrom}

@@ -5,16 +5,14 @@ use Rattle.std.proofs.lemmas.Bool.{cases_lt}
 use Rattle.std.proofs.lemmas.Bool.Decides.{nat_tests}
 use Rattle.std.proofs.lemmas.Int.{by_lt_z, ints}
 use Rattle.std.proofs.lemmas.Option.{same_Some}
-use Rattle.ts_row.specs.Row.{Row}
-use Rattle.ts_row.specs.Element.{Element}
+use Rattle.ts_row.specs.Row.{Row, Element}
 use Rattle.ts_cells.specs.IrregularPage.{AreRising}
 use Rattle.ts_irregular.specs.Edit.{element_at, last_of}
-use Rattle.ts_entry.specs.Reading.{is_reached, starts_to_last}
-use Rattle.ts_calendar.specs.Intervals.{IsLaid}
+use Rattle.ts_entry.specs.Entry.{is_reached, starts_to_last}
+use Rattle.ts_calendar.specs.Calendars.{IsLaid}
 use Rattle.ts_calendar.proofs.StampLemmas.{int_lt_yes, int_lt_no, int_lt-false}
-use Rattle.ts_offset.specs.Walk.{on_starts}
-use Rattle.ts_offset.specs.Grid.{GridPlan, starts_before, starts_of, stamp_of}
-use Rattle.ts_combine.specs.Lag.{from_origin, lagged_at}
+use Rattle.ts_offset.specs.Grid.{on_starts, GridPlan, starts_before, starts_of, stamp_of}
+use Rattle.ts_combine.specs.Combine.{from_origin, lagged_at}
 use Rattle.ts_combine.specs.Series.{IsStartOf}
 use Rattle.ts_combine.specs.Moved.{up_to, moved, last_offset}
 use Rattle.ts_combine.proofs.RisingLemmas.{IsOneOf, AreRisen, same-risen, risen-kept, risen-given, kept-one, one-kept, one-given, given-one, one-at, at-one, risen-at, count-below, starts-risen}

@@ -5,8 +5,7 @@ use Rattle.std.proofs.lemmas.List.{append-nil, map-append, length-map, take_more
 use Rattle.std.proofs.lemmas.List.Elements.{All-nil, All-push, filter_map-append}
 use Rattle.std.proofs.lemmas.Option.{slice_get-map, slice_get_within, get_or_from_slice_get}
 use Rattle.ts_row.specs.declared.row.Elem.{Elem}
-use Rattle.ts_row.specs.Row.{visible}
-use Rattle.ts_row.specs.Element.{Element}
+use Rattle.ts_row.specs.Row.{visible, Element}
 use Rattle.ts_offset.specs.Grid.{GridPlan}
 use Rattle.ts_entry.specs.Entry.{element_in, elements_in}
 use Rattle.ts_combine.specs.Rows.{Gathers}

@@ -2,11 +2,10 @@
 use Rattle.std.proofs.Common.{◌≡◌, ◌∙◌, ℕ, zero, suc, ◌+◌, ◌<◌, ℤ, pos, ◌+ℤ◌, ◌≤ℤ◌, Option, Some, IsSome, length, List, [], ◌∷◌, ◌++◌, sym, ap, subst, arith}
 use Rattle.std.proofs.lemmas.List.{append-nil, append_assoc, map-append, length-map}
 use Rattle.std.proofs.lemmas.Int.{ints}
-use Rattle.ts_calendar.specs.Plan.{CalendarPlan}
-use Rattle.ts_calendar.specs.Intervals.{start_at}
+use Rattle.ts_calendar.specs.Calendars.{CalendarPlan, start_at}
 use Rattle.ts_offset.proofs.ListLemmas.{taken-zero, taken-more-some, taken-count-some}
 use Rattle.ts_offset.proofs.CountLemmas.{gap-le}
-use Rattle.ts_offset.specs.Walk.{gap}
+use Rattle.ts_offset.specs.Grid.{gap}
 use Rattle.ts_combine.specs.Rows.{Gathers}
 use Rattle.ts_combine.specs.Line.{starts_of_next, starts_up_to, AllExist}
 use Rattle.ts_combine.specs.Reach.{rows_with}

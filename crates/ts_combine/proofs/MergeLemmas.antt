@@ -3,8 +3,7 @@ use Rattle.std.proofs.Common.{◌≡◌, ◌∙◌, Bool, true, false, cond, ℤ
 use Rattle.std.specs.List.{cons_option}
 use Rattle.std.specs.FinMap.{entries}
 use Rattle.std.proofs.lemmas.Int.{ints}
-use Rattle.ts_row.specs.Row.{Row}
-use Rattle.ts_row.specs.Element.{Element}
+use Rattle.ts_row.specs.Row.{Row, Element}
 use Rattle.ts_irregular.specs.Edit.{element_at}
 use Rattle.ts_irregular.proofs.EditLemmas.{element_at-lower, element_at-same}
 use Rattle.ts_pattern.specs.declared.junction.Junction.{Junction}

@@ -6,8 +6,7 @@ use Rattle.std.proofs.lemmas.List.{append-nil, append_assoc, map-append, drop_mo
 use Rattle.std.proofs.lemmas.List.Elements.{All-push}
 use Rattle.std.proofs.lemmas.Option.{slice_get-map, slice_get_within, get_or_from_slice_get, same_Some}
 use Rattle.ts_row.specs.declared.row.Elem.{Elem}
-use Rattle.ts_row.specs.Row.{Row, visible}
-use Rattle.ts_row.specs.Element.{Element}
+use Rattle.ts_row.specs.Row.{Row, visible, Element}
 use Rattle.ts_cells.specs.IrregularPage.{AreRising}
 use Rattle.ts_irregular.proofs.EditLemmas.{AreRising-tail}
 use Rattle.ts_pattern.specs.declared.junction.Junction.{Junction}
@@ -19,7 +18,7 @@ use Rattle.ts_entry.specs.Entry.{element_in, elements_in}
 use Rattle.ts_combine.specs.Rows.{Gathers}
 use Rattle.ts_combine.specs.Call.{row_at, joined_row, HasElements, GathersJoined, IsIndex}
 use Rattle.ts_combine.specs.Merge.{stamp_at, IsTaken, behind}
-use Rattle.ts_calendar.specs.Intervals.{IsBefore}
+use Rattle.ts_calendar.specs.Calendars.{IsBefore}
 use Rattle.ts_combine.specs.declared.joined.Joined.{Joined}
 use Rattle.ts_combine.specs.declared.rows.Rows.{Rows}
 use Rattle.ts_combine.specs.declared.side.Side as given

@@ -3,9 +3,8 @@ use Rattle.std.proofs.Common.{◌≡◌, ◌∙◌, ℤ, pos, ◌+ℤ◌, ◌*�
 use Rattle.std.proofs.lemmas.Int.{ints}
 use Rattle.ts_base.specs.declared.unit.Unit as unit
 use Rattle.ts_base.specs.declared.unit.Unit.TheVariants.{Second, Minute, Hour, Day, Week, Month, Year}
-use Rattle.ts_base.specs.Moment.{IsStamp, stamp_if_any, clock_of}
-use Rattle.ts_base.specs.Months.{day_of_month}
-use Rattle.ts_calendar.specs.Intervals.{IsEarly, start_in}
+use Rattle.ts_base.specs.Moment.{IsStamp, stamp_if_any, clock_of, day_of_month}
+use Rattle.ts_calendar.specs.Calendars.{IsEarly, start_in}
 use Rattle.ts_calendar.specs.Line.{line_at, month_line}
 use Rattle.ts_calendar.proofs.StampLemmas.{stamp-is}
 use Rattle.ts_calendar.proofs.LineLemmas.{line-start, month_at, date-moved}

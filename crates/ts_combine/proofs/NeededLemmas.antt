@@ -13,17 +13,13 @@ use Rattle.std.proofs.lemmas.Option.{same_Some}
 use Rattle.ts_base.specs.Moment.{IsStamp, is_between}
 use Rattle.ts_base.specs.declared.refusal.Refusal.{Refusal}
 use Rattle.ts_base.specs.declared.refusal.Refusal.TheVariants.{BeforeOrigin}
-use Rattle.ts_row.specs.Row.{Row}
-use Rattle.ts_row.specs.Element.{Element}
+use Rattle.ts_row.specs.Row.{Row, Element}
 use Rattle.ts_irregular.specs.Edit.{element_at}
 use Rattle.ts_base.specs.Answer.{within_rows}
-use Rattle.ts_calendar.specs.Plan.{CalendarPlan}
-use Rattle.ts_calendar.specs.Calendar.{common_grid}
-use Rattle.ts_calendar.specs.Intervals.{IsLaid, IsBefore, start_at}
+use Rattle.ts_calendar.specs.Calendars.{CalendarPlan, common_grid, IsLaid, IsBefore, start_at}
 use Rattle.ts_calendar.specs.declared.grid.CommonGrid.{CommonGrid}
 use Rattle.ts_calendar.proofs.StampLemmas.{int_lt_no, int_lt-false}
-use Rattle.ts_offset.specs.Grid.{GridPlan, held_start, stamp_of, starts_of, starts_before, offset_at, offset_of}
-use Rattle.ts_offset.specs.Walk.{on_starts}
+use Rattle.ts_offset.specs.Grid.{GridPlan, held_start, stamp_of, starts_of, starts_before, offset_at, offset_of, on_starts}
 use Rattle.ts_offset.specs.declared.shape.Shape.{Shape}
 use Rattle.ts_offset.specs.declared.shape.Shape.TheVariants.{Irregular, Regular}
 use Rattle.ts_offset.proofs.OwnLemmas.{held-from, from-held}

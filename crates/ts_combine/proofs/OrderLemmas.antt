@@ -8,8 +8,7 @@ use Rattle.std.specs.FinMap.{put, entries, empty, entries-insert, len-entries, l
 use Rattle.std.specs.FinMap.Entries.{by_order}
 use Rattle.std.proofs.lemmas.Int.{ints}
 use Rattle.std.proofs.lemmas.List.{nil_from_length}
-use Rattle.ts_row.specs.Row.{Row}
-use Rattle.ts_row.specs.Element.{Element}
+use Rattle.ts_row.specs.Row.{Row, Element}
 use Rattle.ts_cells.specs.IrregularPage.{AreRising}
 use Rattle.ts_irregular.specs.Edit.{element_at}
 use Rattle.ts_irregular.proofs.EditLemmas.{AreRising-tail, element_at-higher}

@@ -2,14 +2,12 @@
 use Rattle.std.proofs.Common.{◌≡◌, ◌∙◌, ◌⊎◌, inl, inr, ℕ, zero, suc, ◌<◌, Bool, true, false, cond, ℤ, pos, neg_ℤ, ◌+ℤ◌, ◌<ℤ◌, ◌≤ℤ◌, Option, Some, None, List, [], ◌∷◌, filter, filter_map, length, slice_get, refl, sym, ap, subst, arith}
 use Rattle.std.specs.Prelude.{int_lt}
 use Rattle.std.specs.List.{cons_option}
-use Rattle.ts_calendar.specs.Plan.{CalendarPlan}
-use Rattle.ts_calendar.specs.Intervals.{IsLaid}
-use Rattle.ts_calendar.specs.First.{reach, near_count}
+use Rattle.ts_calendar.specs.Calendars.{CalendarPlan, IsLaid, reach, near_count}
 use Rattle.ts_calendar.proofs.StampLemmas.{int_lt_yes, int_lt_no}
 use Rattle.ts_calendar.proofs.LawLemmas.{starts-rise}
 use Rattle.std.proofs.lemmas.Int.{ints}
 use Rattle.std.proofs.lemmas.Option.{same_Some}
-use Rattle.ts_offset.specs.Walk.{numbers_from, on_start, on_starts}
+use Rattle.ts_offset.specs.Grid.{numbers_from, on_start, on_starts}
 use Rattle.ts_offset.proofs.ListLemmas.{taken-zero, taken-suc}
 use Rattle.ts_offset.proofs.WindowLemmas.{on-start}
 

@@ -5,11 +5,9 @@ use Rattle.std.proofs.lemmas.Int.{by_lt_z, ints}
 use Rattle.std.proofs.lemmas.List.{map-append}
 use Rattle.std.proofs.lemmas.List.Elements.{All-append, All-nil, All-map, filter_map-append}
 use Rattle.ts_row.specs.declared.row.Elem.{Elem}
-use Rattle.ts_row.specs.Row.{visible}
-use Rattle.ts_row.specs.Element.{Element}
-use Rattle.ts_calendar.specs.Plan.{CalendarPlan}
-use Rattle.ts_calendar.specs.Intervals.{start_at}
-use Rattle.ts_offset.specs.Walk.{gap}
+use Rattle.ts_row.specs.Row.{visible, Element}
+use Rattle.ts_calendar.specs.Calendars.{CalendarPlan, start_at}
+use Rattle.ts_offset.specs.Grid.{gap}
 use Rattle.ts_offset.proofs.ListLemmas.{taken-zero, taken-suc, taken-append}
 use Rattle.ts_offset.proofs.WindowLemmas.{gap-none}
 use Rattle.ts_offset.proofs.CountLemmas.{gap-le}

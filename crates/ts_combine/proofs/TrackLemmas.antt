@@ -5,14 +5,11 @@ use Rattle.std.proofs.lemmas.Bool.{cases_lt}
 use Rattle.std.proofs.lemmas.Int.{by_lt_z, ints}
 use Rattle.std.proofs.lemmas.Option.{same_Some, slice_get-map, slice_get_within}
 use Rattle.ts_row.specs.declared.row.Elem.{Elem}
-use Rattle.ts_row.specs.Row.{Row}
-use Rattle.ts_row.specs.Element.{Element}
+use Rattle.ts_row.specs.Row.{Row, Element}
 use Rattle.ts_irregular.specs.Edit.{element_at}
-use Rattle.ts_calendar.specs.Plan.{CalendarPlan}
-use Rattle.ts_calendar.specs.Intervals.{start_at}
+use Rattle.ts_calendar.specs.Calendars.{CalendarPlan, start_at}
 use Rattle.ts_calendar.proofs.StampLemmas.{int_lt_yes, int_lt_no}
-use Rattle.ts_offset.specs.Walk.{IsOnStart}
-use Rattle.ts_offset.specs.Grid.{held_start}
+use Rattle.ts_offset.specs.Grid.{IsOnStart, held_start}
 use Rattle.ts_offset.proofs.OwnLemmas.{from-held}
 use Rattle.ts_combine.specs.Series.{side_of, IsSeries}
 use Rattle.ts_entry.specs.Entry.{element_in, elements_in}

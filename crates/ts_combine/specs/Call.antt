@@ -5,9 +5,8 @@ use Rattle.ts_base.specs.declared.refusal.Refusal.{Refusal}
 use Rattle.ts_base.specs.declared.fault.Trouble.{Trouble}
 use Rattle.ts_base.specs.declared.fault.Trouble.TheVariants.{Refused, Memory}
 use Rattle.ts_base.specs.declared.refusal.Refusal.TheVariants.{NotRegular}
-use Rattle.ts_row.specs.Row.{Row, visible}
-use Rattle.ts_row.specs.Element.{Element}
-use Rattle.ts_calendar.specs.Calendar.{common_grid}
+use Rattle.ts_row.specs.Row.{Row, visible, Element}
+use Rattle.ts_calendar.specs.Calendars.{common_grid}
 use Rattle.ts_offset.specs.declared.shape.Shape.{Shape}
 use Rattle.ts_offset.specs.declared.shape.Shape.TheVariants.{Irregular, Regular}
 use Rattle.ts_combine.specs.Combine.{Side, values_or_nulls}

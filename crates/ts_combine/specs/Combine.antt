@@ -1,25 +1,27 @@
--- Two series as one: rows with the columns of both, at the stamps where one or both have an element.
-use Rattle.std.specs.Prelude.{ℕ, ℤ, Bool, true, ◌&&◌, ◌||◌, if◌then◌else◌, Option, Some, None, is_some}
-use Rattle.std.specs.Prelude.{option_and_then, Result, Ok, Err, List, [], ◌∷◌, ◌++◌, map, filter, filter_map, replicate}
+-- Rows of two series, and of a series beside itself.
+use Rattle.std.specs.Prelude.{ℕ, ℤ, pos, ◌-ℤ◌, int_lt, unsigned_abs, Bool, true, ◌&&◌, ◌||◌, if◌then◌else◌, Option}
+use Rattle.std.specs.Prelude.{Some, None, option_map, is_some, option_and_then, Result, Ok, Err, List, [], ◌∷◌, ◌++◌}
+use Rattle.std.specs.Prelude.{map, filter, filter_map, replicate}
 use Rattle.std.specs.FinMap.{FinMap, entries, from_entries}
 use Rattle.std.specs.Ordering.{int_cmp}
 use Rattle.std.specs.Int.{int_max}
 use Rattle.ts_base.specs.Moment.{is_between}
 use Rattle.ts_base.specs.declared.refusal.Refusal.{Refusal}
+use Rattle.ts_base.specs.declared.refusal.Refusal.TheVariants.{NotRegular}
+use Rattle.ts_base.specs.Answer.{within_rows}
+use Rattle.ts_row.specs.declared.value.Value.TheVariants.{Null}
+use Rattle.ts_row.specs.Row.{Row, Values, visible, Element}
 use Rattle.ts_pattern.specs.declared.junction.Junction.{Junction}
 use Rattle.ts_pattern.specs.declared.junction.Junction.TheVariants.{And, Or}
 use Rattle.ts_calendar.specs.declared.grid.CommonGrid.{CommonGrid}
-use Rattle.ts_calendar.specs.Plan.{CalendarPlan}
-use Rattle.ts_calendar.specs.Calendar.{common_grid}
-use Rattle.ts_offset.specs.Grid.{GridPlan, held_start}
-use Rattle.ts_offset.specs.Counting.{starts_between}
+use Rattle.ts_calendar.specs.Calendars.{CalendarPlan, common_grid}
+use Rattle.ts_offset.specs.Grid.{GridPlan, starts_before, stamp_of, held_start, starts_between}
 use Rattle.ts_offset.specs.declared.shape.Shape.{Shape}
 use Rattle.ts_offset.specs.declared.shape.Shape.TheVariants.{Irregular, Regular}
-use Rattle.ts_row.specs.declared.value.Value.TheVariants.{Null}
-use Rattle.ts_row.specs.Row.{Row, Values, visible}
-use Rattle.ts_row.specs.Element.{Element}
 use Rattle.ts_irregular.specs.Edit.{element_at}
-use Rattle.ts_base.specs.Answer.{within_rows}
+use Rattle.ts_entry.specs.Entry.{starts_to_last}
+
+-- Two series as one: rows with the columns of both, at the stamps where one or both have an element.
 
 -- a series that is combined: where its elements can stand, how many columns they have, and those that aren't hidden
 pub record Side : Type 0 where
@@ -101,3 +103,23 @@ joined_of junction a b Irregular Irregular from to = joined_there junction a b f
 
 abbrev pub joined : Junction → Side → Side → ℤ → ℤ → Result (List Element) Refusal
 joined junction a b from to = joined_of junction a b a.shape b.shape from to
+
+-- A series on a grid against itself so many on starts earlier.
+
+-- an offset, unless it lies before the origin
+abbrev pub from_origin : ℤ → Option ℕ
+from_origin n = if int_lt n (pos 0) then None else Some (unsigned_abs n)
+
+-- the on start so many before one; a negative number leads to a later one
+abbrev pub start_before : GridPlan → ℤ → ℤ → Option ℤ
+start_before grid by start = option_and_then (stamp_of grid) (from_origin (pos (starts_before grid start) -ℤ by))
+
+-- the element that stands so many on starts before one, at that one
+abbrev pub lagged_at : GridPlan → ℤ → List Element → ℤ → Option Element
+lagged_at grid by es start =
+    option_map (λ row. (start, row)) (option_and_then (λ s. element_at s es) (start_before grid by start))
+
+-- at each on start from the origin to the last element, the one that stands so many on starts before it
+abbrev pub lagged : Shape → ℤ → List Element → Result (List Element) Refusal
+lagged Irregular by es = Err NotRegular
+lagged (Regular grid) by es = within_rows (filter_map (lagged_at grid by es) (starts_to_last grid es))

@@ -1,5 +1,4 @@
 pub mod Combine
-pub mod Lag
 pub mod Series
 pub mod Rows
 pub mod Call

@@ -1,9 +1,7 @@
 -- Starts of intervals one after the other, and those that an interval of another calendar holds.
 use Rattle.std.specs.Prelude.{◌≡◌, ℕ, ℤ, ◌<ℤ◌, ◌≤ℤ◌, Some, IsSome, List, filter_map}
-use Rattle.ts_calendar.specs.Plan.{CalendarPlan}
-use Rattle.ts_calendar.specs.Intervals.{start_at}
-use Rattle.ts_offset.specs.Walk.{numbers_from, gap}
-use Rattle.ts_offset.specs.Grid.{held_start}
+use Rattle.ts_calendar.specs.Calendars.{CalendarPlan, start_at}
+use Rattle.ts_offset.specs.Grid.{numbers_from, gap, held_start}
 
 -- the starts of the n intervals of a calendar from number k on, on or off
 abbrev pub starts_of_next : CalendarPlan → ℤ → ℕ → List ℤ

@@ -1,6 +1,6 @@
 -- The next of two lists of elements, one stamp after the other.
 use Rattle.std.specs.Prelude.{◌≡◌, ℕ, ℤ, ◌+◌, Option, Some, None, option_map, List, slice_get}
-use Rattle.ts_calendar.specs.Intervals.{IsBefore}
+use Rattle.ts_calendar.specs.Calendars.{IsBefore}
 use Rattle.ts_row.specs.declared.row.Elem.{Elem}
 
 -- the stamp of element number k, if there is one

@@ -2,11 +2,10 @@
 use Rattle.std.specs.Prelude.{◌≡◌, ℕ, ◌<◌, nat_le, if◌then◌else◌, ℤ, pos, ◌+ℤ◌, Option, Some, None, option_map}
 use Rattle.std.specs.Prelude.{option_and_then, unwrap_or, List, [], All, length, map}
 use Rattle.ts_row.specs.declared.row.Elem.{Elem}
-use Rattle.ts_row.specs.Row.{visible}
-use Rattle.ts_row.specs.Element.{Element}
+use Rattle.ts_row.specs.Row.{visible, Element}
 use Rattle.ts_irregular.specs.Edit.{last_of}
 use Rattle.ts_offset.specs.Grid.{GridPlan, starts_before, stamp_of}
-use Rattle.ts_combine.specs.Lag.{from_origin}
+use Rattle.ts_combine.specs.Combine.{from_origin}
 use Rattle.ts_entry.specs.Entry.{elements_in}
 use Rattle.ts_combine.specs.Rows.{Gathers}
 use Rattle.ts_combine.specs.Call.{row_at}

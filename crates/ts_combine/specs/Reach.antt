@@ -3,12 +3,10 @@ use Rattle.std.specs.Prelude.{◌≡◌, ℕ, ◌+◌, ◌<◌, ◌≤◌, ◌�
 use Rattle.std.specs.Prelude.{None, option_and_then, List, length, map, filter_map, slice_get}
 use Rattle.std.specs.Borrow.{Bor}
 use Rattle.ts_row.specs.declared.row.Elem.{Elem}
-use Rattle.ts_row.specs.Row.{Row}
-use Rattle.ts_row.specs.Element.{Element}
+use Rattle.ts_row.specs.Row.{Row, Element}
 use Rattle.ts_irregular.specs.Edit.{element_at}
-use Rattle.ts_calendar.specs.Plan.{CalendarPlan}
-use Rattle.ts_offset.specs.Walk.{IsOnStart}
-use Rattle.ts_offset.specs.Grid.{held_start}
+use Rattle.ts_calendar.specs.Calendars.{CalendarPlan}
+use Rattle.ts_offset.specs.Grid.{IsOnStart, held_start}
 use Rattle.ts_offset.specs.declared.shape.Shape.{Shape}
 use Rattle.ts_offset.specs.declared.shape.Shape.TheVariants.{Irregular, Regular}
 use Rattle.ts_pattern.specs.declared.junction.Junction.{Junction}

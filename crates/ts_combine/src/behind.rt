@@ -1,6 +1,6 @@
 // A series against itself, so many on starts earlier.
 ghost use Rattle.std.specs.Prelude.{◌≡◌, ◌<◌, ◌⊎◌, length, filter_map, IfOk, All};
-ghost use Rattle.ts_combine.specs.Lag.{lagged};
+ghost use Rattle.ts_combine.specs.Combine.{lagged};
 ghost use Rattle.ts_combine.specs.Series.{side_of, IsSeries};
 ghost use Rattle.ts_offset.specs.Shape.{IsLaidOut};
 ghost use Rattle.ts_entry.specs.Entry.{elements_in};

@@ -2,13 +2,10 @@
 ghost use Rattle.std.specs.Prelude.{◌≡◌, ◌≢◌, ◌⊎◌, ◌+ℤ◌, ◌-ℤ◌, ◌≤ℤ◌, pos, false, IsTrue, ◌↔◌, Some, Ok};
 ghost use Rattle.std.specs.Int.{int_max};
 ghost use Rattle.ts_base.specs.Moment.{IsStamp};
-ghost use Rattle.ts_pattern.specs.Units.{smaller_unit};
-ghost use Rattle.ts_calendar.specs.Calendar.{common_grid};
+ghost use Rattle.ts_pattern.specs.Patterns.{smaller_unit};
+ghost use Rattle.ts_calendar.specs.Calendars.{common_grid, IsNear, IsEarly, IsLaid, start_at};
 ghost use Rattle.ts_calendar.specs.Line.{line_at};
-ghost use Rattle.ts_calendar.specs.First.{IsNear};
-ghost use Rattle.ts_calendar.specs.Intervals.{IsEarly, IsLaid, start_at};
-ghost use Rattle.ts_offset.specs.Walk.{IsFirstFrom, IsOnStart};
-ghost use Rattle.ts_offset.specs.Counting.{starts_between};
+ghost use Rattle.ts_offset.specs.Grid.{IsFirstFrom, IsOnStart, starts_between};
 ghost use Rattle.ts_combine.specs.Combine.{every_start};
 ghost use Rattle.ts_combine.specs.Line.{AreHeldFrom, AllExist, starts_up_to};
 

@@ -1,9 +1,9 @@
 // Two series at the starts of the grid that they have in common.
 ghost use Rattle.std.specs.Prelude.{◌≡◌, ◌+◌, ◌<◌, ◌≤◌, ◌^◌, [], ◌++◌, if◌then◌else◌, pos, ◌+ℤ◌, ◌≤ℤ◌, ◌<ℤ◌, ◌⊎◌, List};
 ghost use Rattle.std.specs.Prelude.{length, OnOk, IfOk};
-ghost use Rattle.ts_calendar.specs.First.{IsNear};
+ghost use Rattle.ts_calendar.specs.Calendars.{IsNear};
 ghost use Rattle.ts_base.specs.Answer.{most_rows};
-ghost use Rattle.ts_offset.specs.Walk.{gap};
+ghost use Rattle.ts_offset.specs.Grid.{gap};
 ghost use Rattle.ts_combine.specs.Combine.{is_kept};
 ghost use Rattle.ts_combine.specs.Series.{side_of};
 ghost use Rattle.ts_combine.specs.Rows.{Gathers};

@@ -1,7 +1,6 @@
 -- Series that are kept with their calendars.
 use Rattle.std.specs.Prelude.{◌≡◌, Option, Some, None}
-use Rattle.ts_calendar.specs.Plan.{CalendarPlan}
-use Rattle.ts_calendar.specs.Intervals.{IsLaid}
+use Rattle.ts_calendar.specs.Calendars.{CalendarPlan, IsLaid}
 use Rattle.ts_offset.specs.declared.shape.Shape.{Shape}
 use Rattle.ts_offset.specs.declared.shape.Shape.TheVariants.{Irregular, Regular}
 

@@ -14,16 +14,12 @@ use Rattle.std.proofs.lemmas.Int.{by_lt_z, ints}
 use Rattle.std.proofs.lemmas.List.{length-append, length-map}
 use Rattle.std.proofs.lemmas.List.Elements.{filter_map-append}
 use Rattle.ts_base.specs.declared.refusal.Refusal.{Refusal}
-use Rattle.ts_row.specs.Row.{Row}
-use Rattle.ts_row.specs.Element.{Element}
+use Rattle.ts_row.specs.Row.{Row, Element}
 use Rattle.ts_base.specs.Answer.{within_rows}
-use Rattle.ts_calendar.specs.Plan.{CalendarPlan}
-use Rattle.ts_calendar.specs.Intervals.{IsEarly, IsLaid}
-use Rattle.ts_calendar.specs.First.{reach, near_count}
+use Rattle.ts_calendar.specs.Calendars.{CalendarPlan, IsEarly, IsLaid, reach, near_count}
 use Rattle.ts_calendar.specs.declared.grid.CommonGrid.{CommonGrid}
 use Rattle.ts_calendar.proofs.StampLemmas.{int_lt_yes, int_lt_no}
-use Rattle.ts_offset.specs.Grid.{GridPlan}
-use Rattle.ts_offset.specs.Walk.{numbers_from, on_start, on_starts}
+use Rattle.ts_offset.specs.Grid.{GridPlan, numbers_from, on_start, on_starts}
 use Rattle.ts_offset.proofs.ListLemmas.{taken-zero, taken-suc}
 use Rattle.ts_offset.specs.declared.shape.Shape.{Shape}
 use Rattle.ts_offset.specs.declared.shape.Shape.TheVariants.{Irregular, Regular}

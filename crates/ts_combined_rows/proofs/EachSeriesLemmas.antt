@@ -7,15 +7,13 @@ use Rattle.std.proofs.Math.Seq.{take-add}
 use Rattle.std.proofs.lemmas.List.Concat.{flat_map-append}
 use Rattle.ts_base.specs.declared.fault.Trouble.{Trouble}
 use Rattle.ts_command.specs.declared.command.Command.TheVariants.{AggregateAll}
-use Rattle.ts_row.specs.RowType.{Heading}
+use Rattle.ts_row.specs.Row.{Heading, Row}
 use Rattle.ts_row.specs.declared.kind.Column.{Column}
-use Rattle.ts_row.specs.Row.{Row}
 use Rattle.ts_space.specs.Directory.{places_of}
-use Rattle.ts_sheets.specs.Range.{within_range}
+use Rattle.ts_sheets.specs.Stamped.{within_range}
 use Rattle.ts_offset.specs.declared.shape.Shape.{Shape}
 use Rattle.ts_expr.specs.declared.item.Item.{Item}
-use Rattle.ts_expr.specs.Grammar.{read_list}
-use Rattle.ts_expr.specs.Binding.{Binding, binding}
+use Rattle.ts_expr.specs.Aggregates.{read_list, Binding, binding}
 use Rattle.ts_clip.specs.Series.{IsTold}
 use Rattle.ts_offset.specs.Shape.{IsLaidOut}
 use Rattle.ts_aggregate.specs.Fold.{Fold, Folds}

@@ -6,8 +6,7 @@ use Rattle.ts_base.specs.declared.refusal.Refusal.{Refusal}
 use Rattle.ts_base.specs.declared.refusal.Refusal.TheVariants.{TooLarge}
 use Rattle.ts_page.specs.Pages.{Contents}
 use Rattle.ts_row.specs.declared.kind.Column.{Column}
-use Rattle.ts_row.specs.RowType.{Heading}
-use Rattle.ts_row.specs.Element.{Element, seen}
+use Rattle.ts_row.specs.Row.{Heading, Element, seen}
 use Rattle.ts_space.specs.Directory.{places_of}
 use Rattle.ts_pattern.specs.declared.junction.Junction.{Junction}
 use Rattle.ts_pattern.specs.declared.junction.Junction.TheVariants.{And, Or}

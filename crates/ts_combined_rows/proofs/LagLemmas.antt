@@ -3,14 +3,13 @@ use Rattle.std.proofs.Common.{◌≡◌, ℕ, ℤ, Bool, IsTrue, Result, Ok, Err
 use Rattle.ts_base.specs.declared.refusal.Refusal.{Refusal}
 use Rattle.ts_command.specs.declared.command.Command.TheVariants.{Lag}
 use Rattle.ts_row.specs.declared.kind.Column.{Column}
-use Rattle.ts_row.specs.RowType.{Heading}
-use Rattle.ts_row.specs.Element.{Element, seen}
+use Rattle.ts_row.specs.Row.{Heading, Element, seen}
 use Rattle.ts_space.specs.Directory.{places_of}
 use Rattle.ts_offset.specs.declared.shape.Shape.{Shape}
 use Rattle.ts_entry.specs.Handed.{AreHanded}
 use Rattle.ts_clip.specs.Series.{IsTold}
 use Rattle.ts_offset.specs.Shape.{IsLaidOut}
-use Rattle.ts_combine.specs.Lag.{lagged}
+use Rattle.ts_combine.specs.Combine.{lagged}
 use Rattle.ts_model.specs.Catalogue.{Catalogue, shape_of}
 use Rattle.ts_layout.specs.Meaning.{Layout, catalogue_of}
 use Rattle.ts_answer.specs.Answer.{Tried, Answered, ◌>>=◌, known, outcome, carried_out, lag_series}

@@ -7,11 +7,11 @@ use Rattle.std.proofs.lemmas.Bool.{lt-ltb, le-ltb}
 use Rattle.ts_base.specs.declared.refusal.Refusal.{Refusal}
 use Rattle.ts_base.specs.declared.refusal.Refusal.TheVariants.{TooLarge}
 use Rattle.ts_row.specs.declared.kind.Column.{Column}
-use Rattle.ts_row.specs.Element.{Element, seen}
+use Rattle.ts_row.specs.Row.{Element, seen}
 use Rattle.ts_space.specs.declared.place.Place.{Place}
 use Rattle.ts_space.specs.Place.{IsRising, count_of}
-use Rattle.ts_sheets.specs.Range.{within_range}
-use Rattle.ts_calendar.specs.Intervals.{IsLaid}
+use Rattle.ts_sheets.specs.Stamped.{within_range}
+use Rattle.ts_calendar.specs.Calendars.{IsLaid}
 use Rattle.ts_offset.specs.Grid.{GridPlan}
 use Rattle.ts_offset.specs.declared.shape.Shape.{Shape}
 use Rattle.ts_offset.specs.declared.shape.Shape.TheVariants.{Regular}
@@ -21,7 +21,7 @@ use Rattle.ts_base.specs.Answer.{most_rows, within_rows}
 use Rattle.ts_clip.specs.Call.{AreElementsTaken}
 use Rattle.ts_clip.specs.Series.{HaveElements}
 use Rattle.ts_offset.specs.Shape.{IsLaidOut}
-use Rattle.ts_combine.specs.Lag.{lagged}
+use Rattle.ts_combine.specs.Combine.{lagged}
 use Rattle.ts_combine.specs.Moved.{moved, start_behind, last_offset}
 use Rattle.ts_combine.specs.Series.{AreOnStarts, IsStartOf}
 use Rattle.ts_combine.proofs.LagLemmas.{lagged-moved}

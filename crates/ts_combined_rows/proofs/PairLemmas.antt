@@ -9,12 +9,12 @@ use Rattle.ts_base.specs.declared.refusal.Refusal.{Refusal}
 use Rattle.ts_base.specs.declared.refusal.Refusal.TheVariants.{TooLarge}
 use Rattle.ts_page.specs.Pages.{Contents}
 use Rattle.ts_row.specs.declared.kind.Column.{Column}
-use Rattle.ts_row.specs.Element.{Element, seen}
+use Rattle.ts_row.specs.Row.{Element, seen}
 use Rattle.ts_space.specs.declared.place.Place.{Place}
 use Rattle.ts_space.specs.Directory.{places_of}
 use Rattle.ts_irregular.specs.Call.{Reads}
-use Rattle.ts_sheets.specs.Range.{is_within, within_range}
-use Rattle.ts_calendar.specs.First.{near_count}
+use Rattle.ts_sheets.specs.Stamped.{is_within, within_range}
+use Rattle.ts_calendar.specs.Calendars.{near_count}
 use Rattle.ts_offset.specs.declared.shape.Shape.{Shape}
 use Rattle.ts_offset.specs.declared.shape.Shape.TheVariants.{Irregular, Regular}
 use Rattle.ts_base.specs.Answer.{most_rows, within_rows}

@@ -7,20 +7,18 @@ use Rattle.std.proofs.lemmas.Bool.Decides.{nat_tests}
 use Rattle.std.proofs.lemmas.Int.{by_lt_z, ints}
 use Rattle.std.proofs.lemmas.Option.{same_Some}
 use Rattle.std.proofs.lemmas.List.Elements.{All-head, All-tail}
-use Rattle.ts_row.specs.Element.{Element}
-use Rattle.ts_sheets.specs.Range.{is_within, within_range}
+use Rattle.ts_row.specs.Row.{Element}
+use Rattle.ts_sheets.specs.Stamped.{is_within, within_range}
 use Rattle.std.specs.Prelude.{slice_get, IfSome, IfNone, ◌↔◌}
 use Rattle.std.proofs.lemmas.Option.{slice_get_within}
 use Rattle.ts_base.specs.Moment.{IsStamp}
-use Rattle.ts_offset.specs.Walk.{on_starts}
-use Rattle.ts_offset.specs.Grid.{starts_of}
+use Rattle.ts_offset.specs.Grid.{on_starts, starts_of, GridPlan, starts_before, stamp_of}
 use Rattle.ts_offset.proofs.ListedLemmas.{start-listed}
 use Rattle.ts_offset.proofs.StartLemmas.{on-line}
 use Rattle.ts_sheets.proofs.StartLemmas.{stamps_rise}
 use Rattle.ts_irregular.proofs.EditLemmas.{int_lt_yes, int_lt_no}
-use Rattle.ts_calendar.specs.Intervals.{IsLaid}
-use Rattle.ts_offset.specs.Grid.{GridPlan, starts_before, stamp_of}
-use Rattle.ts_combine.specs.Lag.{from_origin}
+use Rattle.ts_calendar.specs.Calendars.{IsLaid}
+use Rattle.ts_combine.specs.Combine.{from_origin}
 use Rattle.ts_combine.specs.Moved.{up_to, offset_behind, start_behind, moved}
 use Rattle.ts_combine.specs.Series.{IsStartOf}
 use Rattle.ts_clip.proofs.GridOffsetLemmas.{lower_side}

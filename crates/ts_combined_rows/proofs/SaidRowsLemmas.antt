@@ -8,8 +8,7 @@ use Rattle.std.proofs.lemmas.List.{map_more, take_all, length-map}
 use Rattle.std.proofs.lemmas.List.Concat.{flat_map-append}
 use Rattle.std.proofs.lemmas.Option.{slice_get_within, get_or_from_slice_get}
 use Rattle.ts_row.specs.declared.kind.Column.{Column}
-use Rattle.ts_row.specs.Row.{Row, fits, visible}
-use Rattle.ts_row.specs.Element.{Element}
+use Rattle.ts_row.specs.Row.{Row, fits, visible, Element}
 use Rattle.ts_combine.specs.Combine.{values_or_nulls}
 use Rattle.ts_combine.specs.Call.{row_at}
 use Rattle.ts_entry.specs.Entry.{filled}

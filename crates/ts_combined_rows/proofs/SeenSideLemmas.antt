@@ -3,10 +3,9 @@ use Rattle.std.proofs.Common.{◌≡◌, ℕ, ℤ, Bool, not, IsTrue, Result, Ok
 use Rattle.ts_base.specs.declared.fault.Trouble.{Trouble}
 use Rattle.ts_page.specs.Pages.{Contents, EqualPages}
 use Rattle.ts_row.specs.declared.kind.Column.{Column}
-use Rattle.ts_row.specs.RowType.{Heading}
-use Rattle.ts_row.specs.Element.{Element, seen}
+use Rattle.ts_row.specs.Row.{Heading, Element, seen}
 use Rattle.ts_space.specs.Directory.{places_of}
-use Rattle.ts_sheets.specs.Range.{within_range}
+use Rattle.ts_sheets.specs.Stamped.{within_range}
 use Rattle.ts_offset.specs.declared.shape.Shape.{Shape}
 use Rattle.ts_clip.specs.Series.{HaveElements, IsTold}
 use Rattle.ts_offset.specs.Shape.{IsLaidOut}

@@ -4,20 +4,16 @@ use Rattle.std.proofs.Common.{◌≡◌, ℕ, ◌+◌, ℤ, Bool, true, false, c
 use Rattle.std.proofs.lemmas.Int.{by_lt_z, ints}
 use Rattle.std.proofs.lemmas.List.Elements.{All-append, All-cons, All-filter, All-head, All-tail}
 use Rattle.ts_row.specs.declared.kind.Column.{Column}
-use Rattle.ts_row.specs.Row.{Row, fits}
-use Rattle.ts_row.specs.Element.{Element}
+use Rattle.ts_row.specs.Row.{Row, fits, Element}
 use Rattle.ts_space.specs.declared.place.Place.{Place}
 use Rattle.ts_cells.specs.IrregularPage.{AreElements, AreRising}
 use Rattle.ts_irregular.specs.Edit.{element_at}
 use Rattle.ts_irregular.proofs.EditLemmas.{element_at-lower, element_at-higher}
-use Rattle.ts_sheets.specs.Chain.{ArePages, all_in, AreLater}
+use Rattle.ts_sheets.specs.Stamped.{ArePages, all_in, AreLater, stamped, HaveStarts}
 use Rattle.ts_sheets.proofs.OrderLemmas.{later_of, rising_of, rising_tail}
 use Rattle.ts_series.proofs.RangeLemmas.{filter_later}
-use Rattle.ts_regular.specs.Cell.{Cell}
-use Rattle.ts_regular.specs.RegularPage.{AreCells}
-use Rattle.ts_regular.specs.Offsets.{OffsetElement, elements_from}
+use Rattle.ts_regular.specs.RegularPage.{Cell, AreCells, OffsetElement, elements_from}
 use Rattle.ts_regular.specs.Places.{OffsetPage, AreOn, all_in as all_at}
-use Rattle.ts_sheets.specs.Stamped.{stamped, HaveStarts}
 use Rattle.ts_offset.specs.Grid.{GridPlan, stamp_of}
 use Rattle.ts_offset.specs.declared.shape.Shape.{Shape}
 use Rattle.ts_offset.specs.declared.shape.Shape.TheVariants.{Irregular, Regular}

@@ -6,13 +6,10 @@ use Rattle.std.proofs.lemmas.List.{take_more, map_push}
 use Rattle.std.proofs.lemmas.List.Elements.{All-head, All-tail}
 use Rattle.std.proofs.lemmas.Slice.Zip.{all_zipped_more, AllZip-long}
 use Rattle.ts_page.specs.declared.page.Page.{Page}
-use Rattle.ts_row.specs.RowType.{Heading}
-use Rattle.ts_row.specs.Row.{Row}
-use Rattle.ts_row.specs.Element.{Element}
+use Rattle.ts_row.specs.Row.{Heading, Row, Element}
 use Rattle.ts_space.specs.Directory.{places_of}
-use Rattle.ts_sheets.specs.Range.{within_range}
-use Rattle.ts_expr.specs.Binding.{Binding}
-use Rattle.ts_expr.specs.Fold.{folded_row}
+use Rattle.ts_sheets.specs.Stamped.{within_range}
+use Rattle.ts_expr.specs.Aggregates.{Binding, folded_row}
 use Rattle.ts_clip.specs.Series.{HaveOnPlaces}
 use Rattle.ts_aggregate.specs.declared.series_pages.Stack.{Stack}
 use Rattle.ts_aggregate.specs.Stacks.{IsFoldOf}

@@ -3,7 +3,7 @@ use Rattle.std.specs.Prelude.{◌≡◌, ℕ, ◌==◌, ℤ, if◌then◌else◌
 use Rattle.std.specs.List.{flat_map}
 use Rattle.std.specs.FinMap.{values}
 use Rattle.ts_row.specs.Row.{Row}
-use Rattle.ts_expr.specs.Binding.{Binding}
+use Rattle.ts_expr.specs.Aggregates.{Binding}
 use Rattle.ts_model.specs.declared.kind.Kind.TheVariants as kinds
 use Rattle.ts_model.specs.Definitions.{SeriesDef, at_slot, slots, slots_by_name}
 use Rattle.ts_layout.specs.Meaning.{Layout, elements_at}

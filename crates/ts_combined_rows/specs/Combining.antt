@@ -8,11 +8,9 @@ use Rattle.ts_offset.specs.Shape.{IsLaidOut}
 use Rattle.ts_model.specs.Definitions.{Definitions, series_slots}
 use Rattle.ts_layout.specs.Meaning.{shape_at}
 use Rattle.ts_row.specs.declared.kind.Column.{Column}
-use Rattle.ts_row.specs.Row.{fits}
-use Rattle.ts_row.specs.Element.{Element}
+use Rattle.ts_row.specs.Row.{fits, Element}
 use Rattle.ts_calendar.specs.declared.grid.CommonGrid.{CommonGrid}
-use Rattle.ts_calendar.specs.Calendar.{common_grid}
-use Rattle.ts_calendar.specs.Intervals.{IsEarly}
+use Rattle.ts_calendar.specs.Calendars.{common_grid, IsEarly}
 use Rattle.ts_offset.specs.declared.shape.Shape.{Shape}
 use Rattle.ts_offset.specs.declared.shape.Shape.TheVariants.{Irregular, Regular}
 use Rattle.ts_combine.specs.Combine.{Side}

@@ -5,7 +5,7 @@ use Rattle.std.proofs.Common.{refl, sym, ap, subst, ◌∙◌}
 use Rattle.std.proofs.Math.Nat.{le_refl, le_trans, add-zero, add_assoc, lt_of_le_of_lt, le-add_right}
 use Rattle.std.proofs.lemmas.List.{map-append}
 use Rattle.std.proofs.lemmas.List.Elements.{filter_map-append}
-use Rattle.ts_row.specs.Element.{Element}
+use Rattle.ts_row.specs.Row.{Element}
 use Rattle.ts_entry.specs.Entry.{Entry, filled, element_of, elements_of}
 use Rattle.ts_combine.specs.Moved.{moved}
 use Rattle.ts_combined_rows.specs.Moves.{Mover, Moves, moved_by, with_count}

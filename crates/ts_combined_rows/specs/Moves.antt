@@ -1,6 +1,6 @@
 -- Elements that are handed on at other on starts than their own, one after the other.
 use Rattle.std.specs.Prelude.{◌≡◌, ℕ, ◌+◌, ◌<◌, ◌≤◌, ◌^◌, ℤ, List, [], ◌∷◌, length, map, filter_map}
-use Rattle.ts_row.specs.Element.{Element}
+use Rattle.ts_row.specs.Row.{Element}
 use Rattle.ts_offset.specs.Grid.{GridPlan}
 use Rattle.ts_entry.specs.Entry.{Entry, filled}
 use Rattle.ts_base.specs.Answer.{most_rows}

@@ -1,8 +1,6 @@
 // The elements of a regular series at the on starts so many behind their own.
 ghost use Rattle.std.specs.Prelude.{◌≡◌, ◌<◌, ◌≤◌, ◌^◌, OnOk, IfOk, Some, length, map};
-ghost use Rattle.ts_row.specs.Row.{Row as TheRow};
-ghost use Rattle.ts_row.specs.RowType.{width_of};
-ghost use Rattle.ts_row.specs.Element.{seen};
+ghost use Rattle.ts_row.specs.Row.{Row as TheRow, width_of, seen};
 ghost use Rattle.ts_space.specs.Place.{count_of};
 ghost use Rattle.ts_space.specs.Directory.{places_of};
 ghost use Rattle.ts_irregular.specs.Call.{Reads};
@@ -11,7 +9,7 @@ ghost use Rattle.ts_entry.specs.Entry.{AreSeenBytes, filled};
 ghost use Rattle.ts_entry.specs.Handed.{AreHanded};
 ghost use Rattle.ts_clip.specs.Series.{ArePlaces, IsTold};
 ghost use Rattle.ts_offset.specs.Shape.{IsLaidOut};
-ghost use Rattle.ts_combine.specs.Lag.{lagged};
+ghost use Rattle.ts_combine.specs.Combine.{lagged};
 ghost use Rattle.ts_combine.specs.Moved.{last_offset, start_behind};
 ghost use Rattle.ts_model.specs.Definitions.{series_slots};
 ghost use Rattle.ts_combined_rows.specs.Moves.{IsMovedOn, mover};

@@ -1,6 +1,6 @@
 // Which elements of a regular series have a place so many on starts behind their own.
 ghost use Rattle.std.specs.Prelude.{◌≡◌, ℤ, IfSome, IfNone, None};
-ghost use Rattle.ts_calendar.specs.Intervals.{IsLaid};
+ghost use Rattle.ts_calendar.specs.Calendars.{IsLaid};
 ghost use Rattle.ts_combine.specs.Moved.{start_behind};
 ghost use Rattle.ts_combine.specs.Series.{IsStartOf};
 ghost use Rattle.ts_combined_rows.specs.Placed.{HasNoPlace, NoneBefore, NoneAfter};

@@ -1,9 +1,9 @@
 // Series as they are combined: some of their elements, and on a grid its calendar.
 ghost use Rattle.std.specs.Prelude.{◌≡◌, ◌<◌, IfNone, IfOk, IfSome, Some, option_copied, option_map};
-ghost use Rattle.ts_row.specs.Element.{seen};
+ghost use Rattle.ts_row.specs.Row.{seen};
 ghost use Rattle.ts_space.specs.Directory.{places_of};
 ghost use Rattle.ts_irregular.specs.Call.{Reads};
-ghost use Rattle.ts_sheets.specs.Range.{within_range};
+ghost use Rattle.ts_sheets.specs.Stamped.{within_range};
 ghost use Rattle.ts_offset.specs.declared.shape.Shape.{Shape as TheShape};
 ghost use Rattle.ts_clip.specs.Series.{ArePlaces, IsTold};
 ghost use Rattle.ts_offset.specs.Shape.{IsLaidOut};

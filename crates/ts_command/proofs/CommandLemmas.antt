@@ -7,7 +7,7 @@ use Rattle.ts_text.proofs.CallerLemmas.{Yields, Goes, Any, chain, given, shrinks
 use Rattle.ts_tokens.specs.Tokens.{front}
 use Rattle.ts_arguments.specs.declared.word.Joined.{Joined}
 use Rattle.ts_arguments.specs.declared.word.Joined.TheVariants.{Patterns, Calendars}
-use Rattle.ts_arguments.specs.Calls.{before, two, name_before, key_before, text_before, two_names, joined_names, name_and_text, two_names_and_whole, key_and_name, key_and_whole, key_and_stamp, name_range, key_range, two_keys_range, name_key_range, text_key_range, text_name_range, text_name_key_range, key_whole_range, text_key_whole_range, key_name_stamp_and_name, name_stamp_and_whole, key_stamp_and_whole, key_stamp_and_values, name_and_columns, set_before, set_range, set_stamp_and_values, set_name_stamp_name_and_whole}
+use Rattle.ts_arguments.specs.Arguments.{before, two, name_before, key_before, text_before, two_names, joined_names, name_and_text, two_names_and_whole, key_and_name, key_and_whole, key_and_stamp, name_range, key_range, two_keys_range, name_key_range, text_key_range, text_name_range, text_name_key_range, key_whole_range, text_key_whole_range, key_name_stamp_and_name, name_stamp_and_whole, key_stamp_and_whole, key_stamp_and_values, name_and_columns, set_before, set_range, set_stamp_and_values, set_name_stamp_name_and_whole}
 use Rattle.ts_command.specs.Form.{HasForm}
 use Rattle.ts_command.specs.Routines.{routine_of, least_number, most_number}
 use Rattle.ts_command.specs.Grammar.{a_routine, routine_in, of_name, of_key, of_stamp, of_row, of_text, of_join, of_range, of_clip, of_number, of_keys, of_series, of_running, of_lone, opening, arguments, a_call, a_command}

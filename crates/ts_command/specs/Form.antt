@@ -4,7 +4,7 @@ use Rattle.std.specs.Prelude.{◌<◌, ◌^◌, IsTrue, ⊤, length, pos, neg_�
 use Rattle.std.specs.List.{AllByRecursion}
 use Rattle.ts_base.specs.Name.{is_name, is_key}
 use Rattle.ts_row.specs.declared.kind.Column.{Column}
-use Rattle.ts_rolling.specs.Keys.{is_set}
+use Rattle.ts_rolling.specs.Sets.{is_set}
 use Rattle.ts_command.specs.declared.command.Command.{Command}
 use Rattle.ts_command.specs.declared.command.Command.TheVariants as commands
 

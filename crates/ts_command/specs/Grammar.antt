@@ -1,18 +1,22 @@
--- The grammar of statements.
-use Rattle.std.specs.Prelude.{ℕ, List, [], ◌∷◌, length, Option, None, Result, ℤ, pos, neg_ℤ}
+-- A statement and its routines, and what a script asks for.
+use Rattle.std.specs.Prelude.{ℕ, List, map, [], ◌∷◌, length, Option, None, Result, Ok, Err, ℤ, pos, neg_ℤ}
+use Rattle.ts_base.specs.declared.refusal.Refusal.{Refusal}
+use Rattle.ts_base.specs.declared.refusal.Refusal.TheVariants as refusals
 use Rattle.ts_row.specs.declared.value.Literal.{Literal}
 use Rattle.ts_text.specs.Phrase.{Phrase, ◌>>=◌, give, token, a_sign, made, ended, outcome}
 use Rattle.ts_text.specs.declared.token.TokenKind.{TokenKind}
 use Rattle.ts_text.specs.declared.token.TokenKind.TheVariants.{Word}
+use Rattle.ts_items.specs.Items.{Item, Statement, TooLong, Unended, items, last}
 use Rattle.ts_tokens.specs.Tokens.{front}
 use Rattle.ts_arguments.specs.declared.word.Joined.{Joined}
 use Rattle.ts_arguments.specs.declared.word.Joined.TheVariants.{Patterns, Calendars}
-use Rattle.ts_arguments.specs.Calls.{name_before, key_before, two_names, joined_names, name_and_text}
-use Rattle.ts_arguments.specs.Calls.{two_names_and_whole, key_and_name, key_and_whole, key_and_stamp, name_range}
-use Rattle.ts_arguments.specs.Calls.{key_range, two_keys_range, text_key_range, text_name_range, text_name_key_range}
-use Rattle.ts_arguments.specs.Calls.{text_key_whole_range, key_name_stamp_and_name, name_stamp_and_whole}
-use Rattle.ts_arguments.specs.Calls.{key_stamp_and_whole, key_stamp_and_values, name_and_columns, set_before, set_range}
-use Rattle.ts_arguments.specs.Calls.{set_stamp_and_values, set_name_stamp_name_and_whole}
+use Rattle.ts_arguments.specs.Arguments.{name_before, key_before, two_names, joined_names, name_and_text}
+use Rattle.ts_arguments.specs.Arguments.{two_names_and_whole, key_and_name, key_and_whole, key_and_stamp, name_range}
+use Rattle.ts_arguments.specs.Arguments.{key_range, two_keys_range, text_key_range, text_name_range}
+use Rattle.ts_arguments.specs.Arguments.{text_name_key_range, text_key_whole_range, key_name_stamp_and_name}
+use Rattle.ts_arguments.specs.Arguments.{name_stamp_and_whole, key_stamp_and_whole, key_stamp_and_values}
+use Rattle.ts_arguments.specs.Arguments.{name_and_columns, set_before, set_range, set_stamp_and_values}
+use Rattle.ts_arguments.specs.Arguments.{set_name_stamp_name_and_whole}
 use Rattle.ts_command.specs.declared.routine.Routine.{Routine}
 use Rattle.ts_command.specs.declared.routine.Routine.TheVariants as calls
 use Rattle.ts_command.specs.declared.routine.NameRoutine.{NameRoutine}
@@ -44,6 +48,8 @@ use Rattle.ts_command.specs.declared.routine.LoneRoutine.TheVariants as alone
 use Rattle.ts_command.specs.Routines.{routine_of, least_number, most_number}
 use Rattle.ts_command.specs.declared.command.Command.{Command}
 use Rattle.ts_command.specs.declared.command.Command.TheVariants as commands
+
+-- The grammar of statements.
 
 -- the name of a routine
 abbrev pub routine_in : TokenKind → List ℕ → Option Routine
@@ -182,3 +188,28 @@ a_command = ended (59 ∷ []) a_call
 -- the command that a statement is, or the place of its refusal
 abbrev pub command_of : List ℕ → Result Command ℕ
 command_of text = outcome (length text) (a_command text)
+
+-- What a script asks for: its items, each a command or a refusal.
+
+-- a command, or why there is none
+abbrev pub Request : Type 0
+Request = Result Command Refusal
+
+-- a command, or a refusal at its place
+abbrev pub or_syntax : Result Command ℕ → Request
+or_syntax (Ok command) = Ok command
+or_syntax (Err place) = Err (refusals.Syntax place)
+
+-- what an item asks for
+abbrev pub request_of : Item → Request
+request_of (Statement text) = or_syntax (command_of text)
+request_of TooLong = Err refusals.TooLong
+request_of Unended = Err refusals.Unended
+
+-- what the items ask for that end within the first bytes of a script
+abbrev pub requests : List ℕ → List Request
+requests bytes = map request_of (items bytes)
+
+-- what the end of a script asks for, if it cuts a statement off
+abbrev pub last_request : List ℕ → List Request
+last_request bytes = map request_of (last bytes)

@@ -4,8 +4,7 @@ ghost use Rattle.ts_items.specs.Items.{items_from, place_from};
 ghost use Rattle.ts_text.specs.Spelling.{AreItsTokens};
 ghost use Rattle.ts_text.specs.Place.{everywhere, RefusesInPlace};
 ghost use Rattle.ts_tokens.specs.Tokens.{front};
-ghost use Rattle.ts_command.specs.Grammar.{command_of};
-ghost use Rattle.ts_command.specs.Script.{request_of, requests};
+ghost use Rattle.ts_command.specs.Grammar.{command_of, request_of, requests};
 
 /// A statement that is a command is tokens with blanks between them, then blanks and the `;`. Where it is refused,
 /// whole tokens with their blanks stand before the place.

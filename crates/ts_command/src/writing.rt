@@ -1,6 +1,6 @@
 // Whether a command writes.
 ghost use Rattle.std.specs.Prelude.{◌≡◌};
-ghost use Rattle.ts_command.specs.Writing.{is_writing};
+ghost use Rattle.ts_command.specs.Boundary.{is_writing};
 
 use crate::command::Command;
 

@@ -6,30 +6,24 @@ use Rattle.std.specs.Int.{from_be_bytes}
 use Rattle.std.proofs.lemmas.Bool.Decides.{nat_tests}
 use Rattle.std.proofs.lemmas.List.Elements.{All-head, All-tail}
 use Rattle.ts_row.specs.declared.kind.Column.{Column}
-use Rattle.ts_row.specs.RowType.{Heading, is_row_type}
-use Rattle.ts_row.specs.Element.{Element, has_hidden}
+use Rattle.ts_row.specs.Row.{Heading, is_row_type, Element, has_hidden}
 use Rattle.ts_row.proofs.RowBytesLemmas.{valid}
 use Rattle.ts_page.specs.declared.page.Head.{Head}
 use Rattle.ts_page.specs.declared.page.Head.TheVariants as heads
-use Rattle.ts_page.specs.Head.{head_of, bytes_at, are_zero}
-use Rattle.ts_page.specs.Pages.{IsFreePage}
+use Rattle.ts_page.specs.Pages.{head_of, bytes_at, are_zero, IsFreePage}
 use Rattle.ts_cells.specs.declared.extent.Extent.{Extent}
 use Rattle.ts_cells.specs.IrregularPage.{IsIrregularPage, HasExtent}
 use Rattle.ts_regular.specs.declared.extent.RegularExtent.{RegularExtent}
-use Rattle.ts_regular.specs.Cell.{Cell}
-use Rattle.ts_regular.specs.Offsets.{OffsetElement, elements_from}
-use Rattle.ts_regular.specs.Offsets as offsets
-use Rattle.ts_regular.specs.RegularPage.{IsRegularPage}
-use Rattle.ts_regular.specs.RegularPage as regular
+use Rattle.ts_regular.specs.RegularPage.{Cell, OffsetElement, elements_from, IsRegularPage}
+use Rattle.ts_regular.specs.RegularPage as offsets
 use Rattle.ts_regular.proofs.CellsLemmas.{count_in}
 use Rattle.ts_sheets.specs.Stamped.{stamped, HaveStarts}
 use Rattle.ts_offset.specs.Grid.{GridPlan, stamp_of}
 use Rattle.ts_offset.specs.declared.shape.Shape.{Shape}
 use Rattle.ts_offset.specs.declared.shape.Shape.TheVariants.{Irregular, Regular}
 use Rattle.ts_model.specs.Definitions.{Definitions}
-use Rattle.ts_layout.specs.Limits.{AreOfFormat}
+use Rattle.ts_layout.specs.Meaning.{AreOfFormat, ElementPage, Free, Cells, HoldsSeries, HoldsElements, heading_at, shape_at}
 use Rattle.ts_layout.specs.Sheets.{Sheet, HoldsSheet}
-use Rattle.ts_layout.specs.Meaning.{ElementPage, Free, Cells, HoldsSeries, HoldsElements, heading_at, shape_at}
 use Rattle.ts_layout.proofs.CallerLemmas.{head_free, slot_in as slot_of_head, slot_told, one_sheet, one_grid_page, length-stamped}
 use Rattle.ts_container.specs.declared.content.Content.{Content}
 use Rattle.ts_container.specs.declared.content.Content.TheVariants as content
@@ -97,7 +91,7 @@ hidden_stamped grid (e ∷ es) starts =
 
 -- a page of a regular series, with this extent
 pub grid_found : (grid : GridPlan) (slot t number format base : ℕ) (columns : List Column) (cells : List Cell) (extent : RegularExtent) (page : List ℕ) (span : Span) → slot_in (head_of page) ≡ Some slot → IsRegularPage t columns base cells page
-    → regular.HasExtent base cells extent → HaveStarts grid (elements_from base cells) → AreOfFormat format (stamped grid (elements_from base cells))
+    → offsets.HasExtent base cells extent → HaveStarts grid (elements_from base cells) → AreOfFormat format (stamped grid (elements_from base cells))
     → span ≡ record { slot = slot; count = extent.count; page = number; first = pos extent.base; last = pos extent.base; hidden = extent.hidden } → IsSpanFound (Regular grid) slot columns format number page (Some span)
 grid_found grid slot t number format base columns cells extent page span told is has starts allowed same =
     let es : List OffsetElement = elements_from base cells in

@@ -2,7 +2,7 @@
 use Rattle.std.specs.Prelude.{Any, AllPairs, slice_get}
 use Rattle.std.proofs.Common.{◌≡◌, Bool, IsTrue, Ok, Err, Vec, ℕ, zero, suc, get_or, ◌-◌, ◌<◌, ◌≤◌, Option, Some, None, MatchOption, List, [], ◌∷◌, map, length, refl, sym, ap, subst, ◌∙◌, arith, inl, inr}
 use Rattle.std.specs.Option.{option_map, IfSome}
-use Rattle.ts_calendar.specs.Calendar.{IsValid}
+use Rattle.ts_calendar.specs.Calendars.{IsValid}
 use Rattle.ts_layout.specs.Meaning.{IsThere, IsOnCalendar, HaveOrigins, sum_of_quotas}
 use Rattle.std.proofs.lemmas.Bool.{cases_lt}
 use Rattle.std.proofs.lemmas.List.{get_or_past, length-map}
@@ -17,8 +17,7 @@ use Rattle.ts_volume.specs.FirstBad.{Header, Slots, Names, Rules, Grants, IsLeas
 use Rattle.ts_container.specs.declared.found.Broken.{Broken}
 use Rattle.ts_container.specs.Reading.{AreFilledAmong, IsReadTo, IsBrokenIn, AreOfVolume, AreWritten}
 use Rattle.ts_container.specs.Survey.{Reads, DefinitionsRead, SoundRead, HoldAllSlots, AreKnown, IsBadDefinition, IsPageOfBroken, IsUngranted, AreGranted, AreRight, IsWrong, PassDefinitions}
-use Rattle.ts_page.specs.Pages.{Contents}
-use Rattle.ts_page.specs.Volume.{first_element_page}
+use Rattle.ts_page.specs.Pages.{Contents, first_element_page}
 use Rattle.ts_model.specs.declared.defs.Defs.{Defs}
 use Rattle.ts_container.specs.declared.fault.SurveyFault.{SurveyFault}
 use Rattle.ts_container.specs.declared.fault.SurveyFault.TheVariants.{NotAStore}

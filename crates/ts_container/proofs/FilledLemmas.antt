@@ -7,8 +7,7 @@ use Rattle.ts_model.specs.declared.def.Def.{Def}
 use Rattle.ts_model.specs.Definitions.{Definitions, kind_of, limit, slots, to_def, table_of}
 use Rattle.ts_model.proofs.PartsLemmas.{format-stays}
 use Rattle.ts_container.proofs.FollowLemmas.{follow_more, valid_more}
-use Rattle.ts_layout.specs.Limits.{IsSlotOf}
-use Rattle.ts_layout.specs.Meaning.{def_at, AreFollowing, AreValid}
+use Rattle.ts_layout.specs.Meaning.{IsSlotOf, def_at, AreFollowing, AreValid}
 use Rattle.ts_layout.specs.Changed.{KeepsCalendarRules}
 use Rattle.ts_container.specs.Reading.{AreReadTo, filled}
 use Rattle.ts_layout.specs.Rank.{rank}

@@ -2,8 +2,8 @@
 use Rattle.std.proofs.Common.{◌≡◌, ℕ, ◌<◌, Option, Some, None, IsSome, List, length, set, get_or-set_same, get_or-set_other, refl, sym, ap, subst, ◌∙◌, inl, inr}
 use Rattle.std.specs.Option.{option_map}
 use Rattle.std.proofs.lemmas.Bool.{cases_eq}
-use Rattle.ts_pattern.specs.Plan.{Plan}
-use Rattle.ts_calendar.specs.Calendar.{IsValid}
+use Rattle.ts_pattern.specs.Patterns.{Plan}
+use Rattle.ts_calendar.specs.Calendars.{IsValid}
 use Rattle.ts_model.specs.declared.kind.Kind.TheVariants as kinds
 use Rattle.ts_model.specs.declared.def.Def.{Def}
 use Rattle.ts_model.specs.declared.def.Def.TheVariants as defs

@@ -1,7 +1,7 @@
 -- Slots are marked where a page of their series has a hidden element.
 use Rattle.std.proofs.Common.{◌≡◌, ℕ, zero, suc, ◌+◌, ◌≤◌, Bool, true, false, IsTrue, List, [], ◌∷◌, length, get_or, set, refl, subst, arith}
-use Rattle.ts_row.specs.Element.{has_hidden}
-use Rattle.ts_page.specs.Volume.{first_element_page}
+use Rattle.ts_row.specs.Row.{has_hidden}
+use Rattle.ts_page.specs.Pages.{first_element_page}
 use Rattle.ts_model.specs.Definitions.{Definitions}
 use Rattle.ts_layout.specs.Sheets.{Sheet}
 use Rattle.ts_layout.specs.Meaning.{ElementPage, Cells, element_page}

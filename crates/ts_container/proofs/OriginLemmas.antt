@@ -3,9 +3,8 @@ use Rattle.std.proofs.Common.{◌≡◌, ℕ, ◌<◌, Option, Some, None, IsSom
 use Rattle.std.specs.Option.{IfSome}
 use Rattle.std.proofs.lemmas.Bool.{cases_lt}
 use Rattle.std.proofs.lemmas.Int.{by_lt_z, ints}
-use Rattle.ts_calendar.specs.Plan.{CalendarPlan}
-use Rattle.ts_calendar.specs.Intervals.{start_at, IsAround}
-use Rattle.ts_offset.specs.Walk.{IsOnStart}
+use Rattle.ts_calendar.specs.Calendars.{CalendarPlan, start_at, IsAround}
+use Rattle.ts_offset.specs.Grid.{IsOnStart}
 use Rattle.ts_model.specs.declared.kind.Kind.TheVariants as kinds
 use Rattle.ts_model.specs.Definitions.{Definitions, CalendarDef, SeriesDef, at_slot}
 use Rattle.ts_layout.specs.Slot.{page_of_slot}

@@ -3,8 +3,7 @@ use Rattle.std.proofs.Common.{◌≡◌, ℕ, ◌+◌, ◌-◌, ◌*◌, ◌/◌
 use Rattle.std.proofs.lemmas.Bool.{cases_lt, cases_eq}
 use Rattle.std.proofs.lemmas.Bool.Decides.{nat_tests}
 use Rattle.std.proofs.lemmas.List.{take_all, length-replicate}
-use Rattle.ts_page.specs.Head.{bytes_at}
-use Rattle.ts_page.specs.Volume.{first_element_page}
+use Rattle.ts_page.specs.Pages.{bytes_at, first_element_page}
 use Rattle.ts_model.specs.declared.kind.Kind.{Kind}
 use Rattle.ts_model.specs.declared.kind.Kind.TheVariants as kinds
 use Rattle.ts_model.specs.declared.def.Def.{Def}
@@ -14,8 +13,7 @@ use Rattle.ts_container.specs.declared.found.Found.{Found}
 use Rattle.ts_container.specs.declared.found.Found.TheVariants as found
 use Rattle.ts_layout.specs.declared.place.Slots.{Slots}
 use Rattle.ts_layout.specs.Slot.{slot_size, slot_bytes, slots_in_page, bytes_of_slots, page_of_slot}
-use Rattle.ts_layout.specs.Limits.{IsSlotOf}
-use Rattle.ts_layout.specs.Meaning.{bytes_of_slot}
+use Rattle.ts_layout.specs.Meaning.{IsSlotOf, bytes_of_slot}
 use Rattle.ts_layout.specs.Rank.{rank, rank_of_page}
 use Rattle.ts_layout.proofs.CallerLemmas.{Stands, stands, rank_next, this_or_other}
 use Rattle.ts_container.specs.Reading.{IsReadTo, AreOfVolume, AreWritten, IsWrittenAt, IsSlot, SlotRead, HasZerosBehind, IsPageOf, IsNoPageOf, PageRead}

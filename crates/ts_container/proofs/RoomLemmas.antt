@@ -1,8 +1,8 @@
 -- The room of pages, by the columns of a container.
 use Rattle.std.proofs.Common.{◌≡◌, ℕ, ◌<◌, Option, Some, None, refl, sym}
 use Rattle.std.specs.Option.{option_and_then}
-use Rattle.ts_row.specs.RowType.{Heading}
-use Rattle.ts_cells.specs.Cell.{page_room}
+use Rattle.ts_row.specs.Row.{Heading}
+use Rattle.ts_cells.specs.IrregularPage.{page_room}
 use Rattle.ts_model.specs.Definitions.{Definitions, ContainerDef, at_slot}
 use Rattle.ts_layout.specs.Meaning.{KeepLimits, heading_of_container, heading_in}
 use Rattle.ts_layout.proofs.CallerLemmas.{room_some}

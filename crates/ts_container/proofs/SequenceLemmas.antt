@@ -5,9 +5,8 @@ use Rattle.std.proofs.lemmas.Int.{ints}
 use Rattle.std.proofs.lemmas.List.Elements.{All-cons, All-nil}
 use Rattle.std.proofs.lemmas.List.Kept.{AllPairs-cons}
 use Rattle.ts_row.specs.declared.kind.Column.{Column}
-use Rattle.ts_cells.specs.Cell.{Element, page_room}
-use Rattle.ts_cells.specs.IrregularPage.{AreElements, AreRising, last_stamp}
-use Rattle.ts_sheets.specs.Chain.{all_in, AreLater, AreBefore, ArePages, AreSized, IsDense, IsChain}
+use Rattle.ts_cells.specs.IrregularPage.{Element, page_room, AreElements, AreRising, last_stamp}
+use Rattle.ts_sheets.specs.Stamped.{all_in, AreLater, AreBefore, ArePages, AreSized, IsDense, IsChain}
 use Rattle.ts_sheets.proofs.OrderLemmas.{later_than, later_of, later_back, rising_both, elements_both, pages_made}
 use Rattle.ts_offset.specs.Grid.{GridPlan}
 use Rattle.ts_offset.specs.declared.shape.Shape.{Shape}

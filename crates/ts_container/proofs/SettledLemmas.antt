@@ -17,7 +17,7 @@ use Rattle.ts_slots.specs.Written.{written_of, name_written}
 use Rattle.ts_slots.specs.Reading.{IsWrittenWith}
 use Rattle.ts_slots.proofs.WrittenLemmas.{name_same}
 use Rattle.ts_layout.specs.Slot.{slot_bytes}
-use Rattle.ts_layout.specs.Limits.{IsDef, IsSlotOf, IsRegularPart}
+use Rattle.ts_layout.specs.Meaning.{IsDef, IsSlotOf, IsRegularPart}
 use Rattle.ts_layout.specs.Rank.{rank}
 use Rattle.ts_layout.proofs.CallerLemmas.{slot_filled, at_slot-map}
 use Rattle.ts_volume.specs.FirstBad.{Repeats, Dangles}

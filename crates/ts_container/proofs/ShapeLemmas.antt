@@ -1,7 +1,7 @@
 -- Series and calendars as they stand in their slots, and where the elements of a series can stand.
 use Rattle.std.proofs.Common.{◌≡◌, ℕ, Option, Some, None, List, sym, ap, subst, ◌∙◌, ℤ}
 use Rattle.std.specs.Option.{option_map}
-use Rattle.ts_calendar.specs.Plan.{CalendarPlan}
+use Rattle.ts_calendar.specs.Calendars.{CalendarPlan}
 use Rattle.ts_offset.specs.declared.shape.Shape.TheVariants.{Regular}
 use Rattle.ts_model.specs.declared.kind.Kind.TheVariants as kinds
 use Rattle.ts_model.specs.declared.def.Def.TheVariants as defs

@@ -4,8 +4,8 @@ use Rattle.std.proofs.Common.{◌≡◌, ◌≢◌, ℕ, zero, suc, ◌+◌, ◌
 use Rattle.std.specs.Option.{option_map}
 use Rattle.std.proofs.lemmas.List.Elements.{All-push}
 use Rattle.std.proofs.lemmas.List.Quantifiers.{Any-push, all_pairs_push}
-use Rattle.ts_pattern.specs.Plan.{Plan}
-use Rattle.ts_calendar.specs.Calendar.{IsValid}
+use Rattle.ts_pattern.specs.Patterns.{Plan}
+use Rattle.ts_calendar.specs.Calendars.{IsValid}
 use Rattle.ts_model.specs.declared.kind.Kind.{Kind}
 use Rattle.ts_model.specs.declared.kind.Kind.TheVariants as kinds
 use Rattle.ts_model.specs.declared.def.Def.{Def}
@@ -18,9 +18,8 @@ use Rattle.ts_slots.specs.Written.{form_of, written_of, kind_written, name_writt
 use Rattle.ts_slots.specs.Reading.{IsWrittenWith}
 use Rattle.ts_slots.proofs.WrittenLemmas.{kind_same, bytes_same, whole}
 use Rattle.ts_layout.specs.Slot.{slot_bytes}
-use Rattle.ts_layout.specs.Limits.{IsDef}
+use Rattle.ts_layout.specs.Meaning.{IsDef, Follows}
 use Rattle.ts_layout.specs.Rank.{rank}
-use Rattle.ts_layout.specs.Meaning.{Follows}
 use Rattle.ts_layout.specs.Changed.{KeepsCalendarRules}
 use Rattle.ts_layout.proofs.CallerLemmas.{own, slot_filled, at_slot-map, slot_written, this_or_other, apart_by_rank, as_written}
 use Rattle.ts_volume.specs.FirstBad.{Repeats, Dangles, HavePatterns}

@@ -7,10 +7,10 @@ use Rattle.std.proofs.lemmas.Int.{ints}
 use Rattle.std.proofs.lemmas.List.{map-append}
 use Rattle.std.proofs.lemmas.List.Elements.{All-map, All-weaker, All-filter, filter-append, filter_passes}
 use Rattle.std.proofs.lemmas.List.Sorted.{IsPermutation-map, IsPermutation-sym, IsPermutation-trans, All-permutation}
-use Rattle.ts_row.specs.RowType.{Heading}
+use Rattle.ts_row.specs.Row.{Heading}
 use Rattle.ts_space.specs.declared.place.Place.{Place}
-use Rattle.ts_cells.specs.Cell.{page_room}
-use Rattle.ts_page.specs.Volume.{first_element_page}
+use Rattle.ts_cells.specs.IrregularPage.{page_room}
+use Rattle.ts_page.specs.Pages.{first_element_page}
 use Rattle.ts_offset.specs.declared.shape.Shape.{Shape}
 use Rattle.ts_offset.specs.declared.shape.Shape.TheVariants.{Irregular}
 use Rattle.ts_model.specs.Definitions.{Definitions}

@@ -4,8 +4,7 @@ use Rattle.ts_base.specs.Name.{is_name}
 use Rattle.ts_base.specs.Moment.{IsStamp}
 use Rattle.ts_base.specs.declared.unit.Unit.TheVariants.{Day}
 use Rattle.ts_pattern.specs.declared.run.Run.{Run}
-use Rattle.ts_pattern.specs.Plan.{Plan}
-use Rattle.ts_pattern.specs.Runs.{is_pattern}
+use Rattle.ts_pattern.specs.Patterns.{Plan, is_pattern}
 use Rattle.ts_model.specs.declared.def.Def.TheVariants as defs
 use Rattle.ts_slots.specs.declared.calendar_slot.Part.TheVariants.{By, Own}
 use Rattle.ts_slots.specs.declared.calendar_slot.CalendarForm.{CalendarForm}

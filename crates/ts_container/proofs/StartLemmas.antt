@@ -6,9 +6,7 @@ use Rattle.std.proofs.lemmas.List.Elements.{All-nil, All-cons, All-weaker}
 use Rattle.std.proofs.lemmas.Option.{slice_get_within, slice_get-get_or, get_or_from_slice_get}
 use Rattle.ts_offset.specs.Grid.{GridPlan, starts_of, stamp_of}
 use Rattle.ts_regular.specs.declared.extent.RegularExtent.{RegularExtent}
-use Rattle.ts_regular.specs.Cell.{Cell}
-use Rattle.ts_regular.specs.Offsets.{OffsetElement, elements_from, AreRising, last_of, last_offset}
-use Rattle.ts_regular.specs.RegularPage.{HasExtent}
+use Rattle.ts_regular.specs.RegularPage.{Cell, OffsetElement, elements_from, AreRising, last_of, last_offset, HasExtent}
 use Rattle.ts_regular.proofs.CellsLemmas.{rising_cells}
 use Rattle.ts_sheets.specs.Stamped.{HaveStarts}
 use Rattle.ts_sheets.proofs.StartLemmas.{few_starts}

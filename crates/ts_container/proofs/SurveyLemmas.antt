@@ -2,7 +2,7 @@
 use Rattle.std.proofs.Common.{◌≡◌, ℕ, ◌+◌, ◌<◌, ◌≤◌, Bool, true, false, MatchBool, IsTrue, IsErrAnd, Option, Some, None, Result, Ok, Err, List, [], length, map, refl, sym, ap, subst, ◌∙◌, arith, inl, inr}
 use Rattle.std.proofs.lemmas.Bool.{cases_lt, cases_eq}
 use Rattle.std.proofs.lemmas.List.Elements.{All-nil}
-use Rattle.ts_page.specs.Pages.{Contents, EqualPages, IsOutsideJournal, Got}
+use Rattle.ts_page.specs.Pages.{Contents, EqualPages, IsOutsideJournal, Got, first_element_page}
 use Rattle.std.specs.Prelude.{All}
 use Rattle.ts_model.specs.declared.def.Def.{Def}
 use Rattle.ts_model.specs.declared.kind.Kind.{Kind}
@@ -10,16 +10,14 @@ use Rattle.ts_model.specs.declared.kind.Kind.TheVariants as kinds
 use Rattle.std.specs.Option.{option_map}
 use Rattle.ts_layout.proofs.CallerLemmas.{at_slot-map}
 use Rattle.std.proofs.lemmas.List.{length-map, length-replicate}
-use Rattle.ts_page.specs.Volume.{first_element_page}
 use Rattle.ts_model.specs.Definitions.{Definitions, KindDef, CalendarDef, of_calendar, at_slot, to_def, table_of, limit, slots, with_format, no_definitions}
 use Rattle.ts_model.proofs.PartsLemmas.{empty-table, nothing-defined, tables-stay}
-use Rattle.ts_layout.specs.Limits.{IsSlotOf}
+use Rattle.ts_layout.specs.Meaning.{IsSlotOf, def_at}
 use Rattle.ts_container.specs.declared.fault.SurveyFault.{SurveyFault}
 use Rattle.ts_container.specs.declared.fault.SurveyFault.TheVariants.{NotAStore, Failed, Memory}
 use Rattle.ts_container.specs.declared.found.Found.TheVariants as found
 use Rattle.ts_container.specs.declared.found.Broken.{Broken}
 use Rattle.ts_volume.specs.FirstBad.{IsLeast, HoldsSlots}
-use Rattle.ts_layout.specs.Meaning.{def_at}
 use Rattle.ts_container.specs.Reading.{AreReadTo, AreBroken, IsReadTo, IsBrokenIn, AreOfVolume, AreWritten, IsNoPageOf, PageRead}
 use Rattle.ts_layout.specs.Rank.{rank, rank_of_page, all_slots}
 use Rattle.ts_container.specs.Survey.{Reads, IfRefused, PageGot, AreKnown, IsNoDefinitionPage, IsBadDefinition, DefinitionsRead, PagesJudged}

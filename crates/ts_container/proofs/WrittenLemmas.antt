@@ -3,9 +3,8 @@ use Rattle.std.proofs.Common.{◌≡◌, ℕ, zero, suc, ◌<◌, IsTrue, Option
 use Rattle.std.specs.Option.{option_map, option_and_then, unwrap_or}
 use Rattle.std.proofs.lemmas.Bool.{cases_lt}
 use Rattle.std.proofs.lemmas.List.{get_or_past}
-use Rattle.ts_pattern.specs.Plan.{Plan}
-use Rattle.ts_pattern.specs.Runs.{is_pattern}
-use Rattle.ts_calendar.specs.Plan.{CalendarPlan}
+use Rattle.ts_pattern.specs.Patterns.{Plan, is_pattern}
+use Rattle.ts_calendar.specs.Calendars.{CalendarPlan}
 use Rattle.ts_model.specs.declared.kind.Kind.{Kind}
 use Rattle.ts_model.specs.declared.kind.Kind.TheVariants as kinds
 use Rattle.ts_model.specs.declared.def.Def.{Def}
@@ -13,8 +12,7 @@ use Rattle.ts_model.specs.declared.def.Def.TheVariants as defs
 use Rattle.ts_model.specs.Definitions.{Definitions, KindDef, PatternDef, CalendarDef, kind_of, limit, to_def, from_def, of_pattern, table_of, at_slot, def_at}
 use Rattle.ts_model.proofs.PartsLemmas.{back}
 use Rattle.ts_layout.specs.Slot.{calendar_bytes, slot_bytes, def_bytes, page_of_slot}
-use Rattle.ts_layout.specs.Limits.{IsDef, IsSlotOf, IsPatternDef}
-use Rattle.ts_layout.specs.Meaning.{bytes_of_slot}
+use Rattle.ts_layout.specs.Meaning.{IsDef, IsSlotOf, IsPatternDef, bytes_of_slot}
 use Rattle.ts_layout.proofs.CallerLemmas.{at_slot-map, page_low, page_high}
 use Rattle.ts_container.specs.Reading.{AreWritten}
 use Rattle.ts_container.specs.Survey.{HoldAllSlots}

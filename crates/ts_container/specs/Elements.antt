@@ -3,8 +3,7 @@ use Rattle.std.specs.Prelude.{◌≡◌, ℕ, ◌+◌, ◌-◌, ◌<◌, ◌≤�
 use Rattle.std.specs.Prelude.{[], ◌∷◌, length}
 use Rattle.ts_page.specs.declared.page.Head.{Head}
 use Rattle.ts_page.specs.declared.page.Head.TheVariants as heads
-use Rattle.ts_page.specs.Volume.{first_element_page}
-use Rattle.ts_page.specs.Pages.{Contents}
+use Rattle.ts_page.specs.Pages.{first_element_page, Contents}
 use Rattle.ts_model.specs.Definitions.{Definitions}
 use Rattle.ts_container.specs.declared.content.Content.{Content}
 use Rattle.ts_container.specs.declared.content.Content.TheVariants as content

@@ -1,8 +1,8 @@
 -- What each container is charged, kept as a list of sums.
 use Rattle.std.specs.Prelude.{◌≡◌, ℕ, ◌+◌, ◌-◌, ◌<◌, ◌≤◌, option_map, unwrap_or, List, slice_index, slice_set}
-use Rattle.ts_page.specs.Volume.{most_element_pages}
+use Rattle.ts_page.specs.Pages.{most_element_pages}
 use Rattle.ts_space.specs.Directory.{Directory}
-use Rattle.ts_cells.specs.Cell.{page_room}
+use Rattle.ts_cells.specs.IrregularPage.{page_room}
 use Rattle.ts_model.specs.Definitions.{Definitions, container_slots, at_slot}
 use Rattle.ts_layout.specs.Meaning.{heading_in}
 use Rattle.ts_layout.specs.Charges.{charge_listed, charge_in}

@@ -1,7 +1,7 @@
 -- What is found in slots and on the pages where they stand.
 use Rattle.std.specs.Prelude.{◌≡◌, ℕ, ◌+◌, ◌<◌, ◌≤◌, ◌⊎◌, Option, Some, None, IsSome, Result, Ok, Err, List, [], ◌∷◌}
 use Rattle.std.specs.Prelude.{length, drop, replicate, All, Any, AllPairs, ◌-◌, ◌++◌}
-use Rattle.ts_page.specs.Volume.{page_size}
+use Rattle.ts_page.specs.Pages.{page_size}
 use Rattle.ts_model.specs.declared.kind.Kind.{Kind}
 use Rattle.ts_model.specs.declared.kind.Kind.TheVariants as kinds
 use Rattle.ts_model.specs.declared.def.Def.{Def}
@@ -16,11 +16,10 @@ use Rattle.ts_slots.specs.declared.calendar_slot.Part.TheVariants.{By, Own}
 use Rattle.ts_slots.specs.declared.slot.Written.{Written}
 use Rattle.ts_slots.specs.declared.slot.Written.TheVariants.{Whole, Form}
 use Rattle.ts_layout.specs.Slot.{slot_bytes, slots_in_page, bytes_of_slots}
-use Rattle.ts_layout.specs.Limits.{IsDef, IsSlotOf}
-use Rattle.ts_layout.specs.Meaning.{def_at, HoldsDefinitions, KeepLimits, Follows, AreFollowing, AreValid}
+use Rattle.ts_layout.specs.Meaning.{IsDef, IsSlotOf, def_at, HoldsDefinitions, KeepLimits, Follows, AreFollowing}
+use Rattle.ts_layout.specs.Meaning.{AreValid}
 use Rattle.ts_layout.specs.Changed.{KeepsCalendarRules}
-use Rattle.ts_calendar.specs.Plan.{CalendarPlan}
-use Rattle.ts_calendar.specs.Calendar.{IsValid}
+use Rattle.ts_calendar.specs.Calendars.{CalendarPlan, IsValid}
 use Rattle.ts_layout.specs.Rank.{rank, rank_of_page}
 use Rattle.ts_slots.specs.Written.{IsWritten, form_of, written_of, name_written}
 use Rattle.ts_slots.specs.declared.calendar_slot.CalendarForm.{CalendarForm}

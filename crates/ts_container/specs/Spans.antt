@@ -5,20 +5,17 @@ use Rattle.std.specs.Prelude.{[], ◌∷◌, ◌++◌, length, map, filter, slic
 use Rattle.std.specs.Prelude.{IsTrue}
 use Rattle.std.specs.List.{AllAdjacentBelow}
 use Rattle.ts_row.specs.declared.kind.Column.{Column}
-use Rattle.ts_row.specs.RowType.{Heading}
-use Rattle.ts_row.specs.Element.{has_hidden}
+use Rattle.ts_row.specs.Row.{Heading, has_hidden}
 use Rattle.ts_space.specs.declared.place.Place.{Place}
 use Rattle.ts_space.specs.Directory.{Directory, places_of}
-use Rattle.ts_cells.specs.Cell.{page_room}
-use Rattle.ts_cells.specs.IrregularPage.{last_stamp}
+use Rattle.ts_cells.specs.IrregularPage.{page_room, last_stamp}
 use Rattle.ts_offset.specs.declared.shape.Shape.{Shape}
 use Rattle.ts_offset.specs.declared.shape.Shape.TheVariants.{Irregular, Regular}
 use Rattle.ts_model.specs.Definitions.{Definitions, container_slots, series_slots}
 use Rattle.ts_container.specs.declared.span.Span.{Span}
 use Rattle.ts_layout.specs.Charges.{KeepsQuotaAt}
-use Rattle.ts_layout.specs.Limits.{AreOfFormat}
+use Rattle.ts_layout.specs.Meaning.{AreOfFormat, ElementPage, Free, Cells, heading_at, shape_at}
 use Rattle.ts_layout.specs.Sheets.{Sheet, HoldsSheet}
-use Rattle.ts_layout.specs.Meaning.{ElementPage, Free, Cells, heading_at, shape_at}
 
 -- Where a page ends: one of an irregular series at its last stamp. Of a page on a grid it is where it begins, since two
 -- pages of a series there overlap exactly where they begin at one offset.

@@ -3,8 +3,7 @@ pub use Rattle.ts_slots.specs.Writing.{SlotWritten, HeaderWritten}
 use Rattle.std.specs.Prelude.{◌≡◌, ℕ, ◌-◌, ◌<◌, ◌≤◌, ◌⊎◌, Bool, IsTrue, Result, IfOk, IfErr, OnOk, IsErrOf, List, []}
 use Rattle.std.specs.Prelude.{◌∷◌, Any, Vec, true, false, slice_index_or}
 use Rattle.ts_disk.specs.Device.{Rose}
-use Rattle.ts_page.specs.Volume.{first_element_page}
-use Rattle.ts_page.specs.Pages.{Contents, EqualPages}
+use Rattle.ts_page.specs.Pages.{first_element_page, Contents, EqualPages}
 use Rattle.ts_model.specs.declared.kind.Kind.TheVariants as kinds
 use Rattle.ts_model.specs.declared.defs.Defs.{Defs}
 use Rattle.ts_model.specs.Definitions.{Definitions}
@@ -12,7 +11,7 @@ use Rattle.ts_space.specs.Directory.{Directory}
 use Rattle.ts_container.specs.declared.fault.SurveyFault.{SurveyFault}
 use Rattle.ts_container.specs.declared.fault.SurveyFault.TheVariants.{NotAStore, Failed, Memory}
 use Rattle.ts_layout.specs.Slot.{first_definition_page, page_of_slot}
-use Rattle.ts_row.specs.Element.{has_hidden}
+use Rattle.ts_row.specs.Row.{has_hidden}
 use Rattle.ts_layout.specs.Sheets.{Sheet}
 use Rattle.ts_layout.specs.Meaning.{Layout, Cells, element_page, sum_of_quotas, HaveOrigins, AreSound, IsLaidOut}
 use Rattle.ts_layout.specs.Surveyed.{ListsPlaces, free_pages}

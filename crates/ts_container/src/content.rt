@@ -1,6 +1,6 @@
 // What stands on one element page.
 ghost use Rattle.std.specs.Prelude.{◌≡◌, ◌<◌, IsSome, Some, option_copied};
-ghost use Rattle.ts_page.specs.Head.{head_of};
+ghost use Rattle.ts_page.specs.Pages.{head_of};
 ghost use Rattle.ts_model.specs.Definitions.{IsDefinitions, series_slots, container_slots};
 ghost use Rattle.ts_layout.specs.Meaning.{KeepLimits, HaveOrigins, heading_in, heading_at};
 ghost use Rattle.ts_container.specs.Elements.{IsContentOf, slot_in};

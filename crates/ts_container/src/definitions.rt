@@ -1,6 +1,6 @@
 // The definition pages, read one after the other.
 ghost use Rattle.std.specs.Prelude.{◌≡◌, ◌<◌, ◌≤◌, ◌+◌, IfOk, length};
-ghost use Rattle.ts_page.specs.Volume.{first_element_page};
+ghost use Rattle.ts_page.specs.Pages.{first_element_page};
 ghost use Rattle.ts_model.specs.Definitions.{limit, with_format, no_definitions};
 ghost use Rattle.ts_layout.specs.Slot.{slot_size, first_definition_page};
 ghost use Rattle.ts_layout.specs.Rank.{rank, rank_of_page};

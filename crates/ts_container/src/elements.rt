@@ -1,6 +1,6 @@
 // The element pages, read one after the other.
 ghost use Rattle.std.specs.Prelude.{◌≡◌, ◌≤◌, ◌+◌, ◌-◌, ◌∷◌, ◌++◌, [], OnOk, List, length};
-ghost use Rattle.ts_page.specs.Volume.{first_element_page};
+ghost use Rattle.ts_page.specs.Pages.{first_element_page};
 ghost use Rattle.ts_model.specs.Definitions.{Definitions, IsDefinitions};
 ghost use Rattle.ts_layout.specs.Meaning.{ElementPage, KeepLimits, HaveOrigins};
 ghost use Rattle.ts_container.specs.Elements.{Describes, Listed, ElementsRead};

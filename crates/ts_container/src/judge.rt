@@ -1,6 +1,6 @@
 // Whether definition pages have slots of definitions, whatever these mean together.
 ghost use Rattle.std.specs.Prelude.{◌≡◌, ◌↔◌, ◌<◌, ◌≤◌, IfOk, IsTrue, MatchBool, length, ℕ};
-ghost use Rattle.ts_page.specs.Volume.{first_element_page};
+ghost use Rattle.ts_page.specs.Pages.{first_element_page};
 ghost use Rattle.ts_layout.specs.Slot.{slot_size, first_definition_page};
 ghost use Rattle.ts_container.specs.Reading.{IsSlot, IsPageOf, IsNoPageOf, StandsFor};
 ghost use Rattle.ts_container.specs.Survey.{PagesJudged};

@@ -1,8 +1,8 @@
 // What each container is charged, kept as a sum, so that no edit of an element goes over the slots.
 ghost use Rattle.std.specs.Prelude.{◌≡◌, ◌≢◌, ◌+◌, ◌≤◌, ◌<◌, ◌^◌, ℕ, List, Some, IfOk, length, replicate, slice_index};
-ghost use Rattle.ts_row.specs.RowType.{Heading};
+ghost use Rattle.ts_row.specs.Row.{Heading};
 ghost use Rattle.ts_space.specs.Directory.{Directory, places_of};
-ghost use Rattle.ts_cells.specs.Cell.{page_room};
+ghost use Rattle.ts_cells.specs.IrregularPage.{page_room};
 ghost use Rattle.ts_model.specs.Definitions.{Definitions, SeriesDef, container_slots, series_slots, at_slot};
 ghost use Rattle.ts_model.specs.Definitions.{with_format, IsDefinitions};
 ghost use Rattle.ts_layout.specs.Meaning.{KeepLimits, heading_in};

@@ -1,7 +1,7 @@
 // The origins of regular series.
 ghost use Rattle.std.specs.Prelude.{◌≡◌, ◌↔◌, ◌<◌, Some, IsTrue, IfSome, MatchOption};
-ghost use Rattle.ts_calendar.specs.Intervals.{start_at};
-ghost use Rattle.ts_offset.specs.Walk.{IsOnStart};
+ghost use Rattle.ts_calendar.specs.Calendars.{start_at};
+ghost use Rattle.ts_offset.specs.Grid.{IsOnStart};
 ghost use Rattle.ts_model.specs.Definitions.{SeriesDef, at_slot, series_slots, IsDefinitions};
 ghost use Rattle.ts_layout.specs.Meaning.{IsOnCalendar, HaveOrigins};
 ghost use Rattle.ts_volume.specs.FirstBad.{IsAstray, IsLeast};

@@ -1,8 +1,7 @@
 // The rules that definitions keep together.
 ghost use Rattle.std.specs.Prelude.{◌≡◌, ◌↔◌, ◌<◌, Any, IsTrue, length};
 ghost use Rattle.ts_model.specs.Definitions.{at_slot, references, calendar_reference, container_slots};
-ghost use Rattle.ts_layout.specs.Limits.{IsDef};
-ghost use Rattle.ts_layout.specs.Meaning.{quota_in, sum_of_quotas};
+ghost use Rattle.ts_layout.specs.Meaning.{IsDef, quota_in, sum_of_quotas};
 ghost use Rattle.ts_slots.specs.Written.{IsWritten};
 ghost use Rattle.ts_container.specs.Reading.{AreFilledAmong, IsTakenAmong, part_references, references_written};
 

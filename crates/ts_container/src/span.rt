@@ -1,9 +1,7 @@
 // The span of a page of a series.
 ghost use Rattle.std.specs.Prelude.{◌≡◌, ◌<◌, ◌^◌, ◌↔◌, ℕ, List, Some, IsTrue};
-ghost use Rattle.ts_page.specs.Head.{head_of};
-ghost use Rattle.ts_regular.specs.Cell.{Cell};
-ghost use Rattle.ts_regular.specs.Offsets.{elements_from};
-ghost use Rattle.ts_regular.specs.RegularPage.{HasExtent};
+ghost use Rattle.ts_page.specs.Pages.{head_of};
+ghost use Rattle.ts_regular.specs.RegularPage.{Cell, elements_from, HasExtent};
 ghost use Rattle.ts_sheets.specs.Stamped.{HaveStarts};
 ghost use Rattle.ts_offset.specs.declared.shape.Shape.TheVariants.{Irregular, Regular as OnGrid};
 ghost use Rattle.ts_container.specs.Elements.{slot_in};

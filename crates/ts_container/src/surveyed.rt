@@ -1,6 +1,6 @@
 // The survey of a volume's pages.
 ghost use Rattle.std.specs.Prelude.{◌≡◌, ◌+◌, ◌-◌, ◌≤◌, IfOk, IfErr, IsErrOf, IsTrue, MatchOption};
-ghost use Rattle.ts_page.specs.Volume.{first_element_page, most_element_pages};
+ghost use Rattle.ts_page.specs.Pages.{first_element_page, most_element_pages};
 ghost use Rattle.ts_model.specs.Definitions.{IsDefinitions};
 ghost use Rattle.ts_layout.specs.Meaning.{AreSound};
 ghost use Rattle.ts_layout.specs.Rank.{all_slots};

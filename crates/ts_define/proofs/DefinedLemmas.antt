@@ -1,15 +1,13 @@
 -- A definition that is made, and one that is dropped.
 use Rattle.std.proofs.Common.{◌≡◌, ℕ, ◌+◌, ◌≤◌, IsSome, is_some, Option, Some, None, List, length, inl, refl, ap, sym, subst, ◌∙◌}
 use Rattle.std.specs.Option.{option_map, option_and_then}
-use Rattle.ts_row.specs.RowType.{Heading}
+use Rattle.ts_row.specs.Row.{Heading}
 use Rattle.ts_model.specs.declared.kind.Kind.{Kind}
 use Rattle.ts_model.specs.declared.kind.Kind.TheVariants as kinds
 use Rattle.ts_model.specs.declared.def.Def.{Def}
-use Rattle.ts_model.specs.Catalogue.{Catalogue}
-use Rattle.ts_model.specs.Kinds.{In, with_named, without}
+use Rattle.ts_model.specs.Catalogue.{Catalogue, In, with_named, without}
 use Rattle.ts_model.specs.Definitions.{Definitions, SeriesDef, KindDef, of_series, at_slot, kind_of, name_of, to_def, slots, slot_of, references}
-use Rattle.ts_layout.specs.Limits.{IsDef}
-use Rattle.ts_layout.specs.Meaning.{Layout, IsSound, IsThere, catalogue_of, def_at, heading_in, sum_of_quotas, value_of}
+use Rattle.ts_layout.specs.Meaning.{IsDef, Layout, IsSound, IsThere, catalogue_of, def_at, heading_in, sum_of_quotas, value_of}
 use Rattle.ts_layout.specs.Changed.{granted, KeepsCalendarRules, HasOrigin, CanMake, CanDrop, HasNoPage}
 use Rattle.ts_layout.specs.Chains.{AreFilled}
 use Rattle.ts_layout.proofs.CallerLemmas.{made_sound, made_headings, made_kept, made_catalogue, dropped_sound, dropped_headings, dropped_kept, dropped_catalogue, at_slot-map, name_found, vacant_found}

@@ -1,9 +1,8 @@
 -- The grid of a regular series that is made.
 use Rattle.std.proofs.Common.{◌≡◌, ℕ, ℤ, Ok, Result, List, ap, sym, subst, ◌∙◌}
 use Rattle.ts_base.specs.declared.refusal.Refusal.{Refusal}
-use Rattle.ts_calendar.specs.Plan.{CalendarPlan}
-use Rattle.ts_offset.specs.Grid.{GridPlan, grid_of}
-use Rattle.ts_offset.specs.Walk.{IsOnStart}
+use Rattle.ts_calendar.specs.Calendars.{CalendarPlan}
+use Rattle.ts_offset.specs.Grid.{GridPlan, grid_of, IsOnStart}
 use Rattle.ts_model.specs.Definitions.{CalendarDef, at_slot}
 use Rattle.ts_layout.specs.Meaning.{Layout, IsOnCalendar}
 use Rattle.ts_layout.proofs.CallerLemmas.{one_of}

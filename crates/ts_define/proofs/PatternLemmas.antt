@@ -5,12 +5,10 @@ use Rattle.std.proofs.lemmas.List.Quantifiers.{position-Some}
 use Rattle.ts_base.specs.declared.fault.Trouble.{Trouble}
 use Rattle.ts_pattern.specs.declared.junction.Junction.{Junction}
 use Rattle.ts_pattern.specs.declared.junction.Junction.TheVariants.{And, Or}
-use Rattle.ts_pattern.specs.Plan.{Plan}
+use Rattle.ts_pattern.specs.Patterns.{Plan, has_on}
 use Rattle.ts_base.specs.declared.refusal.Refusal.TheVariants.{BadCalendar, AllOff}
-use Rattle.ts_pattern.specs.Runs.{has_on}
 use Rattle.ts_base.specs.Answer.{Answers}
-use Rattle.ts_calendar.specs.Plan.{CalendarPlan}
-use Rattle.ts_calendar.specs.Calendar.{is_late, is_apart, valid_calendar}
+use Rattle.ts_calendar.specs.Calendars.{CalendarPlan, is_late, is_apart, valid_calendar}
 use Rattle.ts_model.specs.declared.kind.Kind.{Kind}
 use Rattle.ts_model.specs.declared.def.Def.{Def}
 use Rattle.ts_model.specs.Catalogue.{Catalogue}

@@ -1,16 +1,14 @@
 -- A command that changes one slot of the definitions, on pages.
 use Rattle.std.proofs.Common.{◌≡◌, ℕ, ◌+◌, ◌-◌, ◌<◌, ◌≤◌, Bool, true, IsTrue, Option, Ok, IsPermutation, List, length, refl, ap, sym, ◌∙◌, subst, arith}
 use Rattle.ts_command.specs.declared.command.Command.{Command}
-use Rattle.ts_page.specs.Pages.{Contents}
-use Rattle.ts_page.specs.Volume.{first_element_page}
+use Rattle.ts_page.specs.Pages.{Contents, first_element_page}
 use Rattle.ts_model.specs.declared.kind.Kind.{Kind}
 use Rattle.ts_model.specs.declared.def.Def.{Def}
 use Rattle.ts_model.specs.Definitions.{Definitions, limit, with_slot}
 use Rattle.ts_model.proofs.PartsLemmas.{format-stays}
 use Rattle.ts_space.specs.Directory.{Directory}
-use Rattle.ts_layout.specs.Limits.{AreOfFormat}
+use Rattle.ts_layout.specs.Meaning.{AreOfFormat, Layout, HoldsLayout, IsSound}
 use Rattle.ts_layout.specs.Slot.{page_of_slot}
-use Rattle.ts_layout.specs.Meaning.{Layout, HoldsLayout, IsSound}
 use Rattle.ts_layout.specs.Changed.{with_slot_bytes, layout_with, KeepsElements}
 use Rattle.ts_layout.specs.Chains.{bare}
 use Rattle.ts_layout.specs.Surveyed.{free_pages}
@@ -20,7 +18,7 @@ use Rattle.ts_container.specs.Survey.{SlotWritten}
 use Rattle.ts_answer.specs.declared.effect.Effect.TheVariants.{Slot}
 use Rattle.ts_answer.specs.View.{view, IsDefinedBy, Shows, KeepsRules}
 use Rattle.ts_answer.specs.CarriedOut.{CarriedOut, Comes}
-use Rattle.ts_command.specs.Writing.{is_writing}
+use Rattle.ts_command.specs.Boundary.{is_writing}
 use Rattle.ts_answer.specs.Decided.{IsDecision, FitsSlot, made_line}
 use Rattle.ts_answer.proofs.CallerLemmas.{defined_by, grows_one}
 

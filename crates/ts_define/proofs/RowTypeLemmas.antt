@@ -4,7 +4,7 @@ use Rattle.std.specs.List.{AllByRecursion, list_all}
 use Rattle.ts_base.specs.declared.fault.Trouble.{Trouble}
 use Rattle.ts_base.specs.Name.{is_name}
 use Rattle.ts_row.specs.declared.kind.Column.{Column}
-use Rattle.ts_row.specs.RowType.{Heading, is_row_type, bad_column, IsBadRowType}
+use Rattle.ts_row.specs.Row.{Heading, is_row_type, bad_column, IsBadRowType}
 use Rattle.ts_command.specs.Form.{IsColumn}
 use Rattle.ts_answer.specs.Answer.{no_bad_column, beyond_old_format}
 use Rattle.ts_answer.specs.Tried.{IsTried, IsRefusedAs}

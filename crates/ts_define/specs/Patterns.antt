@@ -3,14 +3,14 @@ use Rattle.std.specs.Prelude.{◌≡◌, ◌<◌, ℕ, List, Option, Some, IfSom
 use Rattle.ts_base.specs.declared.fault.Trouble.{Trouble}
 use Rattle.ts_pattern.specs.declared.junction.Junction.{Junction}
 use Rattle.ts_pattern.specs.declared.junction.Junction.TheVariants.{And, Or}
-use Rattle.ts_pattern.specs.Plan.{Plan}
+use Rattle.ts_pattern.specs.Patterns.{Plan}
 use Rattle.ts_calendar.specs.declared.text.PatternPart.{PatternPart}
-use Rattle.ts_calendar.specs.Text.{calendar_text}
+use Rattle.ts_calendar.specs.Calendars.{calendar_text}
 use Rattle.ts_command.specs.declared.command.Command.{Command}
 use Rattle.ts_command.specs.declared.command.Command.TheVariants.{AndPatterns, OrPatterns, AndCalendars, OrCalendars}
 use Rattle.ts_model.specs.declared.kind.Kind.{Kind}
 use Rattle.ts_model.specs.declared.def.Def.{Def}
-use Rattle.ts_model.specs.Kinds.{In, with_named}
+use Rattle.ts_model.specs.Catalogue.{In, with_named}
 use Rattle.ts_model.specs.Definitions.{Definitions, CalendarDef, pattern_slots, at_slot}
 use Rattle.ts_layout.specs.Meaning.{Layout, catalogue_of, text_of}
 use Rattle.ts_answer.specs.Decided.{DefinesAs}

@@ -2,7 +2,7 @@
 ghost use Rattle.std.specs.Prelude.{◌≡◌, ◌+◌, ◌≤◌, ℕ, IfOk, length};
 ghost use Rattle.ts_command.specs.declared.command.Command.TheVariants.{TSContainerCreate};
 ghost use Rattle.ts_command.specs.Form.{HasForm};
-ghost use Rattle.ts_page.specs.Volume.{first_element_page};
+ghost use Rattle.ts_page.specs.Pages.{first_element_page};
 ghost use Rattle.ts_model.specs.Definitions.{container_slots};
 ghost use Rattle.ts_layout.specs.Meaning.{sum_of_quotas};
 ghost use Rattle.ts_model.specs.declared.kind.Kind.TheVariants.{Container as Containers};

@@ -5,7 +5,7 @@ ghost use Rattle.ts_model.specs.Definitions.{limit, kind_of, def_at, Refers, IsU
 ghost use Rattle.ts_layout.specs.Meaning.{Layout, catalogue_of};
 ghost use Rattle.ts_answer.specs.Answer.{drop_definition};
 ghost use Rattle.ts_answer.specs.Decided.{DefinesAs, FitsSlot};
-ghost use Rattle.ts_model.specs.Kinds.{HasNoPages};
+ghost use Rattle.ts_model.specs.Catalogue.{HasNoPages};
 ghost use Rattle.ts_answer.specs.Tried.{IsTried};
 ghost use Rattle.ts_answer.specs.View.{IsDefinedBy};
 

@@ -2,7 +2,7 @@
 ghost use Rattle.std.specs.Prelude.{ℕ, IfOk, IsTrue};
 ghost use Rattle.ts_base.specs.Name.{is_name};
 ghost use Rattle.ts_base.specs.Answer.{Answers};
-ghost use Rattle.ts_calendar.specs.Calendar.{joined_calendar};
+ghost use Rattle.ts_calendar.specs.Calendars.{joined_calendar};
 ghost use Rattle.ts_model.specs.declared.kind.Kind.TheVariants.{Calendar as Calendars};
 ghost use Rattle.ts_model.specs.Definitions.{Definitions};
 ghost use Rattle.ts_layout.specs.Chains.{AreFilled};

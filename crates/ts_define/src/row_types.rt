@@ -1,6 +1,6 @@
 // The routine that creates a row type.
 ghost use Rattle.std.specs.Prelude.{ℕ, IfOk};
-ghost use Rattle.ts_row.specs.RowType.{bad_column};
+ghost use Rattle.ts_row.specs.Row.{bad_column};
 ghost use Rattle.ts_command.specs.declared.command.Command.TheVariants.{CreateRowType};
 ghost use Rattle.ts_command.specs.Form.{HasForm};
 ghost use Rattle.ts_model.specs.declared.kind.Kind.TheVariants.{RowType as RowTypes};

@@ -3,7 +3,7 @@ ghost use Rattle.std.specs.Prelude.{ℕ, IfOk};
 ghost use Rattle.ts_model.specs.declared.kind.Kind.TheVariants.{Series};
 ghost use Rattle.ts_layout.specs.Meaning.{Layout, catalogue_of};
 ghost use Rattle.ts_answer.specs.Answer.{wanted, a_new_name};
-ghost use Rattle.ts_model.specs.Kinds.{named};
+ghost use Rattle.ts_model.specs.Catalogue.{named};
 ghost use Rattle.ts_answer.specs.Slots.{IsFreeSlot, IsSlotNamed, Stands};
 ghost use Rattle.ts_answer.specs.Tried.{IsTried};
 ghost use Rattle.ts_answer.specs.View.{IsDefinedBy};

@@ -1,11 +1,11 @@
 // What was decided on definitions is written on pages.
 ghost use Rattle.std.specs.Prelude.{◌≡◌, ◌<◌, ◌≤◌, [], ◌++◌, OnOk, IfOk, IfSome, true};
 ghost use Rattle.ts_command.specs.declared.command.Command.{Command as TheCommand};
-ghost use Rattle.ts_page.specs.Volume.{first_element_page};
+ghost use Rattle.ts_page.specs.Pages.{first_element_page};
 ghost use Rattle.ts_space.specs.Directory.{Directory};
 ghost use Rattle.ts_model.specs.Definitions.{Definitions, limit, kind_of};
 ghost use Rattle.ts_answer.specs.CarriedOut.{CarriedOut};
-ghost use Rattle.ts_command.specs.Writing.{is_writing};
+ghost use Rattle.ts_command.specs.Boundary.{is_writing};
 ghost use Rattle.ts_answer.specs.Decided.{IsDecision, FitsSlot, made_line};
 ghost use Rattle.ts_answer.specs.View.{view};
 

@@ -1,7 +1,7 @@
 -- What a source in memory shows.
 use Rattle.std.specs.Prelude.{ℕ, List, [], Bool, false, drop, ◌==◌}
 use Rattle.std.specs.List.{list_any}
-use Rattle.ts_disk.specs.Input.{Input}
+use Rattle.ts_disk.specs.Device.{Input}
 use Rattle.ts_disk.specs.declared.memory_source.MemorySource.{MemorySource}
 use Rattle.ts_disk.specs.declared.memory_source.BlankSource.{BlankSource}
 

@@ -1,7 +1,7 @@
 // Sources in memory: bytes in pieces, and spaces without end.
 ghost use Rattle.std.specs.Prelude.{◌≡◌, ◌+◌, ◌≤◌, ◌<◌, ℕ, List, length, OnOk, OnErr, IfOk, IsErr, IsTrue, [], ◌∷◌};
 ghost use Rattle.std.specs.Prelude.{◌++◌, take, drop, true, false, min, is_err, replicate};
-ghost use Rattle.ts_disk.specs.Input.{Pulled};
+ghost use Rattle.ts_disk.specs.Device.{Pulled};
 
 use crate::{PullFailed, Source, either, raise};
 use std::alloc::AllocError;

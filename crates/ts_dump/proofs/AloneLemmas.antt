@@ -5,14 +5,13 @@ use Rattle.std.specs.Option.{option_map, option_and_then, unwrap_or}
 use Rattle.std.specs.List.{flat_map}
 use Rattle.std.specs.FinMap.{entries, get}
 use Rattle.ts_row.specs.declared.kind.Column.{Column}
-use Rattle.ts_row.specs.RowType.{Heading}
+use Rattle.ts_row.specs.Row.{Heading}
 use Rattle.ts_calendar.specs.declared.text.PatternPart.{PatternPart}
 use Rattle.ts_calendar.specs.declared.text.CalendarText.{CalendarText}
 use Rattle.ts_model.specs.declared.kind.Kind.{Kind}
 use Rattle.ts_model.specs.declared.kind.Kind.TheVariants as kinds
 use Rattle.ts_model.specs.declared.def.Def.{Def}
-use Rattle.ts_model.specs.Catalogue.{Named, Container, SeriesKind, Series, Catalogue, columns_of}
-use Rattle.ts_model.specs.Kinds.{In, named}
+use Rattle.ts_model.specs.Catalogue.{Named, Container, SeriesKind, Series, Catalogue, columns_of, In, named}
 use Rattle.ts_model.specs.Definitions.{Definitions, KindDef, RowTypeDef, PatternDef, CalendarDef, ContainerDef, SeriesDef, at_slot, to_def, of_series}
 use Rattle.ts_layout.specs.Meaning.{Layout, IsSound, def_at, value_of, series_of, container_of, part_of, kind_in, catalogue_of}
 use Rattle.ts_layout.specs.Lookup.{IsNamedAt}

@@ -7,8 +7,7 @@ use Rattle.std.proofs.lemmas.List.{get_or_past}
 use Rattle.ts_model.specs.declared.kind.Kind.{Kind}
 use Rattle.ts_model.specs.declared.kind.Kind.TheVariants as kinds
 use Rattle.ts_model.specs.declared.def.Def.{Def}
-use Rattle.ts_model.specs.Catalogue.{Series}
-use Rattle.ts_model.specs.Kinds.{In}
+use Rattle.ts_model.specs.Catalogue.{Series, In}
 use Rattle.ts_model.specs.Definitions.{Definitions, KindDef, SeriesDef, IsDefinitions, name_of, to_def, table_of, at_slot, slots, limit, of_series}
 use Rattle.ts_model.specs.Definitions.{name_in as name_of_kind}
 use Rattle.ts_layout.specs.Meaning.{Layout, def_at, name_at, named_in, value_of, series_of, catalogue_of}

@@ -2,8 +2,7 @@
 use Rattle.std.proofs.Common.{◌≡◌, ℕ, ◌*◌, Bool, Result, Ok, Err, List, ap, sym, ◌∙◌, subst}
 use Rattle.std.specs.Result.{IsErrAnd}
 use Rattle.ts_disk.specs.Device.{Device}
-use Rattle.ts_journal.specs.Entry.{Entry, over}
-use Rattle.ts_journal.specs.Journal.{own_page, pages}
+use Rattle.ts_journal.specs.Journal.{Entry, over, own_page, pages}
 use Rattle.ts_store.specs.OpenBatch.{State, IsFresh, IsReadOver, committed_pages}
 use Rattle.ts_store.specs.Undisturbed.{Undisturbed}
 use Rattle.ts_store.proofs.CallerLemmas.{read_closed}

@@ -7,24 +7,21 @@ use Rattle.std.proofs.lemmas.List.Concat.{flat_map-append}
 use Rattle.std.proofs.lemmas.List.Elements.{All-head, All-tail, All-filter, filter_map-append}
 use Rattle.std.proofs.lemmas.Option.{slice_get_within, slice_get-get_or, get_or_from_slice_get}
 use Rattle.ts_base.specs.Moment.{IsStamp}
-use Rattle.ts_calendar.specs.Intervals.{IsLaid}
+use Rattle.ts_calendar.specs.Calendars.{IsLaid}
 use Rattle.ts_calendar.proofs.StampLemmas.{int_lt_no}
-use Rattle.ts_offset.specs.Walk.{on_starts}
-use Rattle.ts_offset.specs.Grid.{GridPlan, stamp_of, starts_of}
+use Rattle.ts_offset.specs.Grid.{on_starts, GridPlan, stamp_of, starts_of}
 use Rattle.ts_offset.specs.declared.shape.Shape.{Shape}
 use Rattle.ts_offset.specs.declared.shape.Shape.TheVariants.{Irregular, Regular}
 use Rattle.ts_offset.proofs.ListedLemmas.{start-listed}
 use Rattle.ts_offset.proofs.StartLemmas.{on-line}
 use Rattle.ts_row.specs.declared.kind.Column.{Column}
-use Rattle.ts_row.specs.Element.{Element}
+use Rattle.ts_row.specs.Row.{Element}
 use Rattle.ts_space.specs.declared.place.Place.{Place}
 use Rattle.ts_cells.specs.IrregularPage.{AreElements}
-use Rattle.ts_sheets.specs.Chain.{all_in}
+use Rattle.ts_sheets.specs.Stamped.{all_in, is_within, within_range, stamped, stamped_one, HaveStarts}
 use Rattle.ts_sheets.specs.Places.{AreChained}
-use Rattle.ts_sheets.specs.Range.{is_within, within_range}
-use Rattle.ts_regular.specs.Offsets.{OffsetElement, elements_from}
+use Rattle.ts_regular.specs.RegularPage.{OffsetElement, elements_from}
 use Rattle.ts_regular.specs.Places.{OffsetPage, AreOn, all_in as all_at}
-use Rattle.ts_sheets.specs.Stamped.{stamped, stamped_one, HaveStarts}
 use Rattle.ts_layout.proofs.CallerLemmas.{all_front, all_back}
 use Rattle.ts_shelf.proofs.StartLemmas.{start_of, stamped_cons}
 use Rattle.ts_page.specs.declared.page.Page.{Page}

@@ -3,8 +3,7 @@ use Rattle.std.proofs.Common.{◌≡◌, ℕ, ◌<◌, Option, Some, None, List,
 use Rattle.std.specs.Option.{option_map}
 use Rattle.std.specs.List.{flat_map}
 use Rattle.std.specs.FinMap.{entries}
-use Rattle.ts_row.specs.RowType.{Heading}
-use Rattle.ts_row.specs.Element.{Element}
+use Rattle.ts_row.specs.Row.{Heading, Element}
 use Rattle.ts_journal.specs.Journal.{pages}
 use Rattle.ts_space.specs.Directory.{Directory, places_of}
 use Rattle.ts_offset.specs.declared.shape.Shape.{Shape}

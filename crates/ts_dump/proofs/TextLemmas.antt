@@ -4,14 +4,13 @@ use Rattle.std.specs.Prelude.{◌/◌, ◌%◌, ◌==◌, if◌then◌else◌, c
 use Rattle.std.specs.List.{list_any}
 use Rattle.std.proofs.lemmas.Bool.Decides.{nat_tests}
 use Rattle.std.proofs.lemmas.List.Concat.{flat_map-append}
-use Rattle.ts_base.specs.Moment.{Civil, civil_of, day_of, clock_of}
-use Rattle.ts_base.specs.StampText.{digit, two_digits, four_digits, five_digits, text_of, stamp_text}
+use Rattle.ts_base.specs.Moment.{Civil, civil_of, day_of, clock_of, digit, two_digits, four_digits, five_digits, text_of, stamp_text}
 use Rattle.std.specs.Fmt.{decimal}
 use Rattle.ts_row.specs.declared.kind.ColumnKind.{ColumnKind}
 use Rattle.ts_row.specs.declared.kind.ColumnKind.TheVariants.{SmallInt, Integer, BigInt, Decimal, VarChar}
 use Rattle.ts_row.specs.declared.kind.Column.{Column}
 use Rattle.std.specs.List.{flat_map}
-use Rattle.ts_row.specs.Printed.{quoted}
+use Rattle.ts_row.specs.Row.{quoted}
 use Rattle.ts_dump_texts.specs.Texts.{quoted_before, kind_before, columns_before}
 
 -- what is put behind a text that was put is put behind both

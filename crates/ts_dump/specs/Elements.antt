@@ -5,7 +5,7 @@ use Rattle.std.specs.FinMap.{values}
 use Rattle.std.proofs.Common.{refl, sym, ap, ◌∙◌, subst}
 use Rattle.std.proofs.lemmas.List.Concat.{flat_map-append}
 use Rattle.ts_row.specs.declared.kind.Column.{Column}
-use Rattle.ts_row.specs.Element.{Element}
+use Rattle.ts_row.specs.Row.{Element}
 use Rattle.ts_model.specs.declared.kind.Kind.TheVariants as kinds
 use Rattle.ts_model.specs.Definitions.{SeriesDef, at_slot, slots, slots_by_name}
 use Rattle.ts_layout.specs.Meaning.{Layout, series_of, catalogue_of}

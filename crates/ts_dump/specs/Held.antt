@@ -1,11 +1,11 @@
 -- What is in memory of a volume that was read.
 use Rattle.std.specs.Prelude.{◌≡◌, ℕ, ◌*◌, Bool, IsTrue, Result, Ok, Err, IfOk, List, [], ◌∷◌}
 use Rattle.ts_disk.specs.Device.{Device}
-use Rattle.ts_page.specs.Volume.{page_size}
+use Rattle.ts_page.specs.Pages.{page_size}
 use Rattle.ts_journal.specs.Journal.{pages}
 use Rattle.ts_store.specs.OpenBatch.{State, committed_pages}
 use Rattle.ts_row.specs.declared.kind.Column.{Column}
-use Rattle.ts_row.specs.Element.{Element}
+use Rattle.ts_row.specs.Row.{Element}
 use Rattle.ts_offset.specs.declared.shape.Shape.{Shape}
 use Rattle.ts_clip.specs.Series.{HaveOnPlaces}
 use Rattle.ts_space.specs.declared.place.Place.{Place}

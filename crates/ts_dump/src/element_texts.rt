@@ -1,7 +1,6 @@
 // The statements of elements, made from the bytes of their cells.
 ghost use Rattle.std.specs.Prelude.{◌≡◌, ◌+◌, ◌<◌, ◌≤◌, ◌^◌, ◌++◌, [], ◌∷◌, Option, OnOk, IfSome, length};
-ghost use Rattle.ts_row.specs.Element.{Element};
-ghost use Rattle.ts_row.specs.RowType.{width_of};
+ghost use Rattle.ts_row.specs.Row.{Element, width_of};
 ghost use Rattle.ts_entry.specs.Stamps.{HasStamp, IsNear};
 ghost use Rattle.ts_entry.specs.Rows.{IsCellWith, row_if_any};
 ghost use Rattle.ts_dump_texts.specs.Texts.{element_text, hiding_text};

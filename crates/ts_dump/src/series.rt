@@ -3,7 +3,7 @@ ghost use Rattle.std.specs.Prelude.{◌≡◌, ◌<◌, ◌∷◌, [], IsTrue, L
 ghost use Rattle.std.specs.List.{flat_map};
 ghost use Rattle.ts_page.specs.Pages.{IsElementPage};
 ghost use Rattle.ts_journal.specs.Journal.{pages};
-ghost use Rattle.ts_row.specs.Element.{Element};
+ghost use Rattle.ts_row.specs.Row.{Element};
 ghost use Rattle.ts_space.specs.Directory.{places_of};
 ghost use Rattle.ts_clip.specs.Series.{HaveOnPlaces};
 ghost use Rattle.ts_offset.specs.Shape.{IsLaidOut};

@@ -1,8 +1,8 @@
 // The texts of statements, each put to the end of what was said.
 ghost use Rattle.std.specs.Prelude.{◌≡◌, [], ◌∷◌, ◌++◌, OnOk};
 ghost use Rattle.std.specs.List.{flat_map};
-ghost use Rattle.ts_base.specs.StampText.{stamp_text};
-ghost use Rattle.ts_row.specs.Printed.{quoted};
+ghost use Rattle.ts_base.specs.Moment.{stamp_text};
+ghost use Rattle.ts_row.specs.Row.{quoted};
 ghost use Rattle.ts_dump_texts.specs.Texts.{quoted_before, kind_before, columns_before, row_type_text};
 ghost use Rattle.ts_dump_texts.specs.Texts.{pattern_text, calendar_text, container_text, irregular_text};
 ghost use Rattle.ts_dump_texts.specs.Texts.{regular_text, element_text, hiding_text};

@@ -15,8 +15,8 @@ use Rattle.std.specs.declared.cmp.Ordering.TheVariants.{Less, Equal, Greater}
 use Rattle.std.proofs.lemmas.Bool.{cases_Bool}
 use Rattle.std.proofs.lemmas.List.Sums.{sum_by-cons}
 use Rattle.ts_row.specs.declared.kind.Column.{Column}
-use Rattle.ts_row.specs.RowType.{Heading}
-use Rattle.ts_calendar.specs.Plan.{CalendarPlan}
+use Rattle.ts_row.specs.Row.{Heading}
+use Rattle.ts_calendar.specs.Calendars.{CalendarPlan}
 use Rattle.ts_calendar.specs.declared.text.PatternPart.{PatternPart}
 use Rattle.ts_calendar.specs.declared.text.PatternPart.TheVariants.{Named as ByName, Own}
 use Rattle.ts_calendar.specs.declared.text.CalendarText.{CalendarText}
@@ -25,8 +25,7 @@ use Rattle.ts_offset.specs.declared.shape.Shape.TheVariants as shapes
 use Rattle.ts_model.specs.declared.kind.Kind.{Kind}
 use Rattle.ts_model.specs.declared.kind.Kind.TheVariants as kinds
 use Rattle.ts_model.specs.Definitions.{limit}
-use Rattle.ts_model.specs.Kinds.{named}
-use Rattle.ts_model.specs.Catalogue.{Named, name_cmp, Container, SeriesKind, Irregular, Regular, Series, Catalogue, with_plan, pattern_of, calendar_of, calendar_named, shape_of, columns_of, quotas}
+use Rattle.ts_model.specs.Catalogue.{named, Named, name_cmp, Container, SeriesKind, Irregular, Regular, Series, Catalogue, with_plan, pattern_of, calendar_of, calendar_named, shape_of, columns_of, quotas}
 use Rattle.ts_model.specs.Charge.{elements_charge, series_charge, container_charge}
 use Rattle.ts_model.proofs.OrderLemmas.{total, same_name, eq_ties, ties-refl, ties-same}
 use Rattle.ts_catalogue_laws.specs.Catalogue.{AreOnce, IsCalendar, IsContainer, IsSeries, IsCatalogue}

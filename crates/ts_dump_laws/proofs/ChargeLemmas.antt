@@ -9,8 +9,7 @@ use Rattle.std.proofs.lemmas.List.{append-nil, append_assoc, map-append, length-
 use Rattle.std.proofs.lemmas.List.{length-append}
 use Rattle.std.proofs.lemmas.List.Sums.{sum_by-cons}
 use Rattle.ts_row.specs.declared.kind.Column.{Column}
-use Rattle.ts_row.specs.Row.{Row}
-use Rattle.ts_row.specs.Element.{Element}
+use Rattle.ts_row.specs.Row.{Row, Element}
 use Rattle.ts_space.specs.Charge.{distinct_count, regular_charge, irregular_charge}
 use Rattle.ts_space.proofs.ChargeLemmas.{distinct_push, charge_grows}
 use Rattle.ts_offset.specs.Grid.{GridPlan, starts_before}

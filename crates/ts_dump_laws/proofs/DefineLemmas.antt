@@ -8,21 +8,17 @@ use Rattle.std.proofs.lemmas.Bool.Decides.{nat_tests}
 use Rattle.std.proofs.lemmas.List.{append-nil, append_assoc, take-append-drop}
 use Rattle.ts_base.specs.declared.refusal.Refusal.TheVariants as refusals
 use Rattle.ts_row.specs.declared.kind.Column.{Column}
-use Rattle.ts_row.specs.RowType.{Heading, keep_rules, may_follow, is_row_type, bad_column, has_long_decimal}
+use Rattle.ts_row.specs.Row.{Heading, keep_rules, may_follow, is_row_type, bad_column, has_long_decimal}
 use Rattle.ts_row.proofs.RowTypeLemmas.{keep_rules-push, bad_column-none}
-use Rattle.ts_pattern.specs.Plan.{Plan}
-use Rattle.ts_pattern.specs.Grammar.{read_plan, printed_plan}
-use Rattle.ts_calendar.specs.Plan.{CalendarPlan}
-use Rattle.ts_calendar.specs.Calendar.{valid_calendar, IsValid}
-use Rattle.ts_calendar.specs.Text.{read_calendar, printed_calendar}
+use Rattle.ts_pattern.specs.Patterns.{Plan, read_plan, printed_plan}
+use Rattle.ts_calendar.specs.Calendars.{CalendarPlan, valid_calendar, IsValid, read_calendar, printed_calendar}
 use Rattle.ts_calendar.specs.declared.text.CalendarText.{CalendarText}
 use Rattle.ts_offset.specs.Grid.{GridPlan, grid_of, held_start, start_or_next}
 use Rattle.ts_command.specs.declared.command.Command.TheVariants as commands
 use Rattle.ts_model.specs.declared.kind.Kind.{Kind}
 use Rattle.ts_model.specs.declared.kind.Kind.TheVariants as kinds
 use Rattle.ts_model.specs.Definitions.{limit}
-use Rattle.ts_model.specs.Kinds.{named, with_named}
-use Rattle.ts_model.specs.Catalogue.{Container, Irregular, Regular, Catalogue, newest_format, pattern_of, calendar_of, calendar_named, with_plan, quotas}
+use Rattle.ts_model.specs.Catalogue.{named, with_named, Container, Irregular, Regular, Catalogue, newest_format, pattern_of, calendar_of, calendar_named, with_plan, quotas}
 use Rattle.ts_answer.specs.Answer.{outcome, carried_out, create_row_type, create_pattern, create_calendar, create_container, create_irregular, create_regular}
 use Rattle.ts_answer.specs.Answer.{◌>>=◌, known, wanted, unused, within_limit, a_new_name, within_pages, given, a_calendar, no_bad_column, beyond_old_format}
 use Rattle.ts_answer.specs.Reply.{ok_line, stamp_line}

@@ -4,11 +4,9 @@ use Rattle.std.specs.FinMap.{get}
 use Rattle.ts_base.specs.declared.refusal.Refusal.TheVariants as refusals
 use Rattle.ts_row.specs.Row.{Row, row_of, marked}
 use Rattle.ts_row.specs.declared.value.Literal.{Literal}
-use Rattle.ts_calendar.specs.Plan.{CalendarPlan}
-use Rattle.ts_calendar.specs.Intervals.{IsLaid}
+use Rattle.ts_calendar.specs.Calendars.{CalendarPlan, IsLaid}
 use Rattle.ts_calendar.proofs.StampLemmas.{int_lt_no}
-use Rattle.ts_offset.specs.Walk.{IsOnStart}
-use Rattle.ts_offset.specs.Grid.{held_start}
+use Rattle.ts_offset.specs.Grid.{IsOnStart, held_start}
 use Rattle.ts_offset.specs.declared.shape.Shape.{Shape}
 use Rattle.ts_offset.specs.declared.shape.Shape.TheVariants.{Irregular, Regular}
 use Rattle.ts_offset.proofs.StartLemmas.{on-line}

@@ -1,9 +1,7 @@
 -- The laws of statements.
 use Rattle.std.proofs.Common.{◌≡◌, IsTrue, Ok}
-use Rattle.ts_pattern.specs.Plan.{Plan}
-use Rattle.ts_pattern.specs.Runs.{is_pattern}
-use Rattle.ts_pattern.specs.Grammar.{read_plan, printed_plan}
-use Rattle.ts_calendar.specs.Text.{IsSound, read_calendar, printed_calendar}
+use Rattle.ts_pattern.specs.Patterns.{Plan, is_pattern, read_plan, printed_plan}
+use Rattle.ts_calendar.specs.Calendars.{IsSound, read_calendar, printed_calendar}
 use Rattle.ts_calendar.specs.declared.text.CalendarText.{CalendarText}
 use Rattle.ts_model.specs.Catalogue.{in_newest_format}
 use Rattle.ts_dump_laws.specs.Statements.{definitions_of, elements_of, statements_of, without_elements}

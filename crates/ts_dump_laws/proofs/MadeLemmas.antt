@@ -13,15 +13,10 @@ use Rattle.std.proofs.lemmas.Bool.{and_parts}
 use Rattle.std.proofs.lemmas.Bool.Decides.{nat_tests}
 use Rattle.std.proofs.lemmas.Nat.{le-div}
 use Rattle.ts_row.specs.declared.kind.Column.{Column}
-use Rattle.ts_row.specs.RowType.{Heading, is_row_type, is_kind, keep_rules, width_of}
-use Rattle.ts_row.specs.Row.{Row, marked}
-use Rattle.ts_row.specs.Element.{Element}
+use Rattle.ts_row.specs.Row.{Heading, is_row_type, is_kind, keep_rules, width_of, Row, marked, Element}
 use Rattle.ts_row.proofs.RowTypeLemmas.{width_of-kept}
-use Rattle.ts_pattern.specs.Plan.{Plan}
-use Rattle.ts_pattern.specs.Runs.{is_pattern}
-use Rattle.ts_pattern.specs.Grammar.{read_plan, printed_plan}
-use Rattle.ts_calendar.specs.Plan.{CalendarPlan}
-use Rattle.ts_calendar.specs.Text.{IsSound, read_calendar, printed_calendar}
+use Rattle.ts_pattern.specs.Patterns.{Plan, is_pattern, read_plan, printed_plan}
+use Rattle.ts_calendar.specs.Calendars.{CalendarPlan, IsSound, read_calendar, printed_calendar}
 use Rattle.ts_calendar.specs.declared.text.CalendarText.{CalendarText}
 use Rattle.ts_offset.specs.declared.shape.Shape.{Shape}
 use Rattle.ts_offset.specs.declared.shape.Shape.TheVariants as shapes

@@ -5,15 +5,9 @@ use Rattle.std.specs.Option.{option_map, option_and_then}
 use Rattle.std.specs.FinMap.{get}
 use Rattle.std.proofs.lemmas.Bool.Decides.{nat_tests}
 use Rattle.ts_base.specs.declared.refusal.Refusal.{Refusal}
-use Rattle.ts_base.specs.Moment.{IsStamp}
-use Rattle.ts_base.specs.Months.{day_of_month}
-use Rattle.ts_pattern.specs.Plan.{Plan}
-use Rattle.ts_pattern.specs.Runs.{is_pattern}
-use Rattle.ts_pattern.specs.Units.{is_monthly}
-use Rattle.ts_calendar.specs.Plan.{CalendarPlan}
-use Rattle.ts_calendar.specs.Calendar.{is_late, IsValid}
-use Rattle.ts_calendar.specs.Intervals.{IsLaid}
-use Rattle.ts_calendar.specs.Text.{IsSoundPart}
+use Rattle.ts_base.specs.Moment.{IsStamp, day_of_month}
+use Rattle.ts_pattern.specs.Patterns.{Plan, is_pattern, is_monthly}
+use Rattle.ts_calendar.specs.Calendars.{CalendarPlan, is_late, IsValid, IsLaid, IsSoundPart}
 use Rattle.ts_calendar.specs.declared.text.PatternPart.{PatternPart}
 use Rattle.ts_calendar.specs.declared.text.PatternPart.TheVariants.{Named as ByName, Own}
 use Rattle.ts_calendar.specs.declared.text.CalendarText.{CalendarText}

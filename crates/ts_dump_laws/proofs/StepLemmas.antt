@@ -4,11 +4,9 @@ use Rattle.std.specs.List.{list_all, flat_map}
 use Rattle.std.proofs.lemmas.List.{append-nil, append_assoc}
 use Rattle.ts_command.specs.declared.command.Command.{Command}
 use Rattle.ts_command.specs.declared.command.Command.TheVariants as commands
-use Rattle.ts_command.specs.Boundary.{boundary_of}
-use Rattle.ts_command.specs.Writing.{is_writing}
+use Rattle.ts_command.specs.Boundary.{boundary_of, is_writing}
 use Rattle.ts_model.specs.Catalogue.{Catalogue}
-use Rattle.ts_answer.specs.Answer.{outcome}
-use Rattle.ts_answer.specs.State.{State, resting, opened, counted, run_outcome, run_answer, after, replies}
+use Rattle.ts_answer.specs.Answer.{outcome, State, resting, opened, counted, run_outcome, run_answer, after, replies}
 use Rattle.ts_answer.specs.Outcomes.{ends_with_ok, is_answered, are_answered}
 use Rattle.ts_answer.proofs.CallerLemmas.{run_came, outside_came, opened_outside, committed_inside, came_inside, ok_lines_are_answers}
 use Rattle.ts_dump_laws.specs.Statements.{in_groups, in_transactions}

@@ -6,9 +6,8 @@ use Rattle.std.specs.List.{filter, flat_map}
 use Rattle.std.specs.Ordering.{is_eq, eq_by_cmp, int_cmp}
 use Rattle.std.specs.FinMap.{empty, entries, entries_sorted, find, get, get-entries, is_sorted, len-empty, len-entries}
 use Rattle.std.specs.FinMap.Entries.{below_all}
-use Rattle.ts_row.specs.Row.{Row}
-use Rattle.ts_row.specs.RowType.{Heading}
-use Rattle.ts_pattern.specs.Plan.{Plan}
+use Rattle.ts_row.specs.Row.{Row, Heading}
+use Rattle.ts_pattern.specs.Patterns.{Plan}
 use Rattle.ts_calendar.specs.declared.text.CalendarText.{CalendarText}
 use Rattle.ts_model.specs.Catalogue.{Named, name_cmp, Container, Series, Catalogue, columns_of}
 use Rattle.ts_model.proofs.OrderLemmas.{both, eq_ties, less, ties-same}

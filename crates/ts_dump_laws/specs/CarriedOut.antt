@@ -3,7 +3,7 @@ use Rattle.std.specs.Prelude.{◌≡◌, true, List}
 use Rattle.std.specs.List.{list_all}
 use Rattle.ts_command.specs.declared.command.Command.{Command}
 use Rattle.ts_model.specs.Catalogue.{Catalogue}
-use Rattle.ts_answer.specs.State.{State, resting, after, replies}
+use Rattle.ts_answer.specs.Answer.{State, resting, after, replies}
 use Rattle.ts_answer.specs.Outcomes.{ends_with_ok, are_answered}
 
 -- none is refused, the last line of each reply begins with `ok`, and they lead from one state to another

@@ -2,8 +2,7 @@
 use Rattle.std.specs.Prelude.{◌≡◌, ◌≤◌, false, IsTrue, Ok, List, length}
 use Rattle.std.specs.List.{list_all}
 use Rattle.ts_row.specs.declared.kind.Column.{Column}
-use Rattle.ts_row.specs.RowType.{is_kind}
-use Rattle.ts_row.specs.Row.{Row, row_of, fits, marked}
+use Rattle.ts_row.specs.Row.{is_kind, Row, row_of, fits, marked}
 use Rattle.ts_model.specs.Catalogue.{Catalogue, newest_format, empty_catalogue, in_newest_format}
 use Rattle.ts_dump_laws.specs.Statements.{Writing, definitions_of, elements_of, statements_of, in_transactions}
 use Rattle.ts_dump_laws.specs.Statements.{without_elements}

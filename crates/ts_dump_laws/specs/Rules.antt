@@ -1,22 +1,16 @@
 -- What a catalogue keeps, so that statements make it.
 use Rattle.std.specs.Prelude.{◌≡◌, ℕ, ℤ, ◌≤◌, ◌≤ℤ◌, IsTrue, Some, List}
 use Rattle.std.specs.FinMap.{get, len}
-use Rattle.ts_row.specs.RowType.{Heading, is_row_type}
-use Rattle.ts_row.specs.Row.{Row, fits}
-use Rattle.ts_pattern.specs.Plan.{Plan}
-use Rattle.ts_pattern.specs.Runs.{is_pattern}
-use Rattle.ts_calendar.specs.Plan.{CalendarPlan}
-use Rattle.ts_calendar.specs.Calendar.{IsValid}
-use Rattle.ts_calendar.specs.Intervals.{IsLaid}
-use Rattle.ts_calendar.specs.Text.{IsSound}
+use Rattle.ts_row.specs.Row.{Heading, is_row_type, Row, fits}
+use Rattle.ts_pattern.specs.Patterns.{Plan, is_pattern}
+use Rattle.ts_calendar.specs.Calendars.{CalendarPlan, IsValid, IsLaid, IsSound}
 use Rattle.ts_calendar.specs.declared.text.CalendarText.{CalendarText}
-use Rattle.ts_offset.specs.Walk.{IsOnStart}
+use Rattle.ts_offset.specs.Grid.{IsOnStart}
 use Rattle.ts_offset.specs.declared.shape.Shape.{Shape}
 use Rattle.ts_offset.specs.declared.shape.Shape.TheVariants as shapes
 use Rattle.ts_model.specs.declared.kind.Kind.{Kind}
 use Rattle.ts_model.specs.Definitions.{limit}
-use Rattle.ts_model.specs.Kinds.{named}
-use Rattle.ts_model.specs.Catalogue.{Container, Series, Catalogue, calendar_of, shape_of, columns_of, quotas}
+use Rattle.ts_model.specs.Catalogue.{named, Container, Series, Catalogue, calendar_of, shape_of, columns_of, quotas}
 use Rattle.ts_model.specs.Charge.{container_charge}
 
 -- a calendar has the form of a text, and stands for a valid one

@@ -4,7 +4,7 @@ pub use Rattle.ts_dump_texts.specs.OfCatalogue.{texts_of_series, texts_of}
 use Rattle.std.specs.Prelude.{◌≡◌, ℕ, zero, suc, Ok, Some, List, [], ◌∷◌, map, codes}
 use Rattle.std.specs.FinMap.{get}
 use Rattle.ts_command.specs.declared.command.Command.{Command}
-use Rattle.ts_command.specs.Script.{requests, last_request}
+use Rattle.ts_command.specs.Grammar.{requests, last_request}
 use Rattle.ts_catalogue_laws.specs.Catalogue.{IsCatalogue}
 use Rattle.ts_volume.specs.Volume.{MeansCatalogue}
 use Rattle.ts_model.specs.Catalogue.{Series, Catalogue, newest_format, empty_catalogue, in_newest_format}

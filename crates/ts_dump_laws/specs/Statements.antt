@@ -4,14 +4,11 @@ use Rattle.std.specs.Prelude.{ℕ, zero, suc, pos, Bool, if◌then◌else◌, Li
 use Rattle.std.specs.List.{flat_map}
 use Rattle.std.specs.FinMap.{empty, entries, from_entries}
 use Rattle.ts_row.specs.declared.kind.Column.{Column}
-use Rattle.ts_row.specs.RowType.{Heading}
-use Rattle.ts_row.specs.Element.{Element}
-use Rattle.ts_row.specs.Row.{Row}
+use Rattle.ts_row.specs.Row.{Heading, Element, Row}
 use Rattle.ts_row.specs.declared.value.Literal.{Literal}
-use Rattle.ts_pattern.specs.Plan.{Plan}
-use Rattle.ts_pattern.specs.Grammar.{printed_plan}
+use Rattle.ts_pattern.specs.Patterns.{Plan, printed_plan}
 use Rattle.ts_calendar.specs.declared.text.CalendarText.{CalendarText}
-use Rattle.ts_calendar.specs.Text.{printed_calendar}
+use Rattle.ts_calendar.specs.Calendars.{printed_calendar}
 use Rattle.ts_command.specs.declared.command.Command.{Command}
 use Rattle.ts_command.specs.declared.command.Command.TheVariants as commands
 use Rattle.ts_model.specs.Catalogue.{Container, SeriesKind, Irregular, Regular, Series, Catalogue, columns_of}

@@ -9,12 +9,11 @@ use Rattle.ts_base.specs.Name.{continues_word, is_word, is_name}
 use Rattle.ts_row.specs.declared.kind.ColumnKind.{ColumnKind}
 use Rattle.ts_row.specs.declared.kind.ColumnKind.TheVariants as kinds
 use Rattle.ts_row.specs.declared.kind.Column.{Column}
-use Rattle.ts_row.specs.RowType.{is_kind}
+use Rattle.ts_row.specs.Row.{is_kind}
 use Rattle.ts_text.specs.Phrase.{Read, Phrase, go_on, taken, taken_front, ◌>>=◌, give, a_sign, behind, phrases, repeated, closed}
 use Rattle.std.proofs.Math.Seq.{take-append_seam}
 use Rattle.ts_tokens.specs.Tokens.{front}
-use Rattle.ts_arguments.specs.Words.{type_of}
-use Rattle.ts_arguments.specs.Arguments.{a_name, a_small, type_in, a_type, kind_behind, a_column}
+use Rattle.ts_arguments.specs.Arguments.{type_of, a_name, a_small, type_in, a_type, kind_behind, a_column}
 use Rattle.ts_dump_texts.specs.Texts.{kind_before, columns_before}
 use Rattle.ts_dump_texts.proofs.TokenLemmas.{word_shows, word_front, name_read}
 use Rattle.ts_dump_texts.proofs.NumberLemmas.{EndsNumber, small_read}

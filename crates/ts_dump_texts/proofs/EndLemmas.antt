@@ -5,7 +5,7 @@ use Rattle.std.specs.Char.{is_ascii_digit}
 use Rattle.std.proofs.lemmas.Bool.{cases_Bool, and_parts}
 use Rattle.std.proofs.lemmas.Bool.Decides.{nat_tests}
 use Rattle.ts_base.specs.Name.{begins_word, continues_word, is_word, is_name, is_key}
-use Rattle.ts_row.specs.Printed.{quoted}
+use Rattle.ts_row.specs.Row.{quoted}
 use Rattle.ts_dump_texts.specs.Texts.{end_of_call, quoted_before, comma_before}
 use Rattle.ts_dump_texts.specs.Script.{ends_once}
 

@@ -11,8 +11,7 @@ use Rattle.ts_text.specs.Phrase.{Read, outcome}
 use Rattle.ts_items.specs.Items.{Item, Statement, Unended, all_blank, quotes_match, after, items_from, place_from, is_unended_at}
 use Rattle.ts_items.proofs.ItemLaws.{items_from-append, place_from-append}
 use Rattle.ts_command.specs.declared.command.Command.{Command}
-use Rattle.ts_command.specs.Grammar.{a_routine, a_call, a_command, command_of}
-use Rattle.ts_command.specs.Script.{Request, or_syntax, request_of}
+use Rattle.ts_command.specs.Grammar.{a_routine, a_call, a_command, command_of, Request, or_syntax, request_of}
 use Rattle.ts_dump_texts.specs.Script.{script_of, ends_once, IsLine, AreLines, ScriptsAskForLines}
 
 -- one quote more

@@ -12,25 +12,21 @@ use Rattle.std.proofs.lemmas.List.Folds.{list_all-append}
 use Rattle.ts_base.specs.declared.unit.Unit as unit
 use Rattle.ts_base.specs.declared.unit.Unit.TheVariants.{Second, Minute, Hour, Day, Week, Month, Year}
 use Rattle.ts_base.specs.Name.{is_name, is_key, is_text}
-use Rattle.ts_base.specs.StampText.{stamp_text}
+use Rattle.ts_base.specs.Moment.{stamp_text}
 use Rattle.ts_row.specs.declared.kind.ColumnKind.{ColumnKind}
 use Rattle.ts_row.specs.declared.kind.ColumnKind.TheVariants.{SmallInt, Integer, BigInt, Decimal, VarChar}
 use Rattle.ts_row.specs.declared.kind.Column.{Column}
 use Rattle.ts_row.specs.declared.value.Value.{Value}
 use Rattle.ts_row.specs.declared.value.Value.TheVariants as values
-use Rattle.ts_row.specs.RowType.{Heading, is_kind, scale_of, is_row_type, keep_rules}
-use Rattle.ts_row.specs.Row.{Values, Row, holds_size, holds, hold, fits}
-use Rattle.ts_row.specs.Printed.{last_digits, fraction_text, size_text, number_text, quoted, value_text, values_text, row_text}
+use Rattle.ts_row.specs.Row.{Heading, is_kind, scale_of, is_row_type, keep_rules, Values, Row, holds_size, holds, hold, fits, last_digits, fraction_text, size_text, number_text, quoted, value_text, values_text, row_text}
 use Rattle.ts_pattern.specs.declared.run.Run.{Run}
-use Rattle.ts_pattern.specs.Plan.{Plan}
-use Rattle.ts_pattern.specs.Runs.{is_pattern}
-use Rattle.ts_pattern.specs.Grammar.{is_count, unit_name, printed_run, printed_runs, printed_plan}
+use Rattle.ts_pattern.specs.Patterns.{Plan, is_pattern, is_count, unit_name, printed_run, printed_runs, printed_plan}
 use Rattle.ts_pattern.specs.Spelling.{Word}
 use Rattle.ts_pattern.proofs.PrintLemmas.{words_of, words-are}
 use Rattle.ts_calendar.specs.declared.text.PatternPart.{PatternPart}
 use Rattle.ts_calendar.specs.declared.text.PatternPart.TheVariants.{Named, Own}
 use Rattle.ts_calendar.specs.declared.text.CalendarText.{CalendarText}
-use Rattle.ts_calendar.specs.Text.{IsSoundPart, IsSound, printed_part, printed_calendar}
+use Rattle.ts_calendar.specs.Calendars.{IsSoundPart, IsSound, printed_part, printed_calendar}
 use Rattle.ts_dump_texts.specs.Texts.{end_of_call, quoted_before, comma_before, kind_before, columns_before, row_type_text, pattern_text, calendar_text, container_text, irregular_text, regular_text, element_text, hiding_text}
 use Rattle.ts_dump_texts.specs.Script.{begins_so, IsLine}
 use Rattle.ts_dump_texts.proofs.PrintedLemmas.{digits_of_number}

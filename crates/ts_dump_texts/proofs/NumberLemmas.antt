@@ -9,15 +9,11 @@ use Rattle.std.proofs.lemmas.Bool.{and_parts}
 use Rattle.std.proofs.lemmas.Bool.Decides.{nat_tests}
 use Rattle.std.proofs.lemmas.Int.{ints}
 use Rattle.ts_base.specs.Name.{is_blank, begins_word}
-use Rattle.ts_base.specs.StampText.{number_of}
-use Rattle.ts_text.specs.Blanks.{unblanked}
-use Rattle.ts_text.specs.Plain.{digits_in_front}
-use Rattle.ts_text.specs.Digits.{magnitude_of}
-use Rattle.ts_text.specs.Phrase.{token}
+use Rattle.ts_base.specs.Moment.{number_of}
+use Rattle.ts_text.specs.Phrase.{unblanked, digits_in_front, magnitude_of, token}
 use Rattle.ts_text.specs.declared.token.TokenKind.{TokenKind}
 use Rattle.ts_text.specs.declared.token.TokenKind.TheVariants.{Number}
-use Rattle.ts_tokens.specs.Tokens.{fraction_length, magnitude_length, signed_length, number_length, of_kind, front}
-use Rattle.ts_tokens.specs.Number.{units_of, scale_of}
+use Rattle.ts_tokens.specs.Tokens.{fraction_length, magnitude_length, signed_length, number_length, of_kind, front, units_of, scale_of}
 use Rattle.ts_tokens.proofs.CallerLemmas.{stops}
 use Rattle.ts_arguments.specs.Arguments.{a_whole, whole_in, within, a_small, small_in}
 use Rattle.ts_dump_texts.proofs.TokenLemmas.{token_taken}

@@ -11,19 +11,16 @@ use Rattle.std.proofs.lemmas.Str.Parse.{IsNumeralModel, numerals_by_fold}
 use Rattle.std.proofs.lemmas.Fmt.{digits_decimal, digits_value-decimal, decimal_nonempty, length-decimal-le}
 use Rattle.ts_base.specs.declared.unit.Unit as unit
 use Rattle.ts_base.specs.declared.unit.Unit.TheVariants.{Second, Minute, Hour, Day, Week, Month, Year}
-use Rattle.ts_base.specs.Moment.{Civil, civil_of, day_of, clock_of}
-use Rattle.ts_base.specs.StampText.{all_digits, number_of, with_digit, digit, two_digits, four_digits, five_digits, text_of, stamp_text}
+use Rattle.ts_base.specs.Moment.{Civil, civil_of, day_of, clock_of, all_digits, number_of, with_digit, digit, two_digits, four_digits, five_digits, text_of, stamp_text}
 use Rattle.ts_base.specs.Name.{begins_word, continues_word, is_word, is_text_byte, is_text}
 use Rattle.ts_pattern.specs.declared.run.Run.{Run}
-use Rattle.ts_pattern.specs.Plan.{Plan}
-use Rattle.ts_pattern.specs.Runs.{is_pattern}
-use Rattle.ts_pattern.specs.Grammar.{is_count, unit_name, printed_run, printed_runs, printed_plan}
+use Rattle.ts_pattern.specs.Patterns.{Plan, is_pattern, is_count, unit_name, printed_run, printed_runs, printed_plan}
 use Rattle.ts_pattern.specs.Spelling.{Word}
 use Rattle.ts_pattern.proofs.PrintLemmas.{words_of, words-are}
 use Rattle.ts_calendar.specs.declared.text.PatternPart.{PatternPart}
 use Rattle.ts_calendar.specs.declared.text.PatternPart.TheVariants.{Named, Own}
 use Rattle.ts_calendar.specs.declared.text.CalendarText.{CalendarText}
-use Rattle.ts_calendar.specs.Text.{printed_part, printed_calendar, IsSoundPart, IsSound}
+use Rattle.ts_calendar.specs.Calendars.{printed_part, printed_calendar, IsSoundPart, IsSound}
 
 -- one byte of a text more
 one_byte : (b : ℕ) (rest : List ℕ) → is_text_byte b ≡ true → is_text rest ≡ true → is_text (b ∷ rest) ≡ true

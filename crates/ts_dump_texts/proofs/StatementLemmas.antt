@@ -6,23 +6,17 @@ use Rattle.std.specs.Fmt.{decimal}
 use Rattle.std.proofs.lemmas.Bool.{and_parts}
 use Rattle.std.proofs.lemmas.Bool.Decides.{nat_tests}
 use Rattle.ts_base.specs.Name.{is_name, is_key, is_text}
-use Rattle.ts_base.specs.Moment.{IsStamp}
-use Rattle.ts_base.specs.StampText.{read_stamp, stamp_text}
+use Rattle.ts_base.specs.Moment.{IsStamp, read_stamp, stamp_text}
 use Rattle.ts_base.proofs.CivilValid.{read_stamp-stamp_text}
 use Rattle.ts_row.specs.declared.kind.Column.{Column}
 use Rattle.ts_row.specs.declared.value.Literal.{Literal}
-use Rattle.ts_row.specs.RowType.{is_kind, is_row_type, keep_rules}
-use Rattle.ts_row.specs.Row.{Row, row_of, fits, marked}
-use Rattle.ts_row.specs.Printed.{row_text}
-use Rattle.ts_pattern.specs.Plan.{Plan}
-use Rattle.ts_pattern.specs.Runs.{is_pattern}
-use Rattle.ts_pattern.specs.Grammar.{printed_plan}
+use Rattle.ts_row.specs.Row.{is_kind, is_row_type, keep_rules, Row, row_of, fits, marked, row_text}
+use Rattle.ts_pattern.specs.Patterns.{Plan, is_pattern, printed_plan}
 use Rattle.ts_calendar.specs.declared.text.CalendarText.{CalendarText}
-use Rattle.ts_calendar.specs.Text.{IsSound, printed_calendar}
+use Rattle.ts_calendar.specs.Calendars.{IsSound, printed_calendar}
 use Rattle.ts_text.specs.Phrase.{Read, Phrase, give, a_sign, made, repeated, closed, the_end, outcome}
 use Rattle.ts_arguments.specs.Printed.{RowsAreReadAgain}
-use Rattle.ts_arguments.specs.Arguments.{a_name, a_key, a_stamp, stamp_in, a_text, text_in, a_whole, a_word, a_literal, a_stamp_column, a_column}
-use Rattle.ts_arguments.specs.Calls.{before, two, name_before, key_before, text_before, stamp_before, whole_before, name_and_text, name_and_whole, two_names_and_whole, key_and_name, key_and_stamp, stamp_and_name, name_stamp_and_name, key_name_stamp_and_name, stamp_and_values, key_stamp_and_values, some_columns, stamp_and_columns, name_and_columns}
+use Rattle.ts_arguments.specs.Arguments.{a_name, a_key, a_stamp, stamp_in, a_text, text_in, a_whole, a_word, a_literal, a_stamp_column, a_column, before, two, name_before, key_before, text_before, stamp_before, whole_before, name_and_text, name_and_whole, two_names_and_whole, key_and_name, key_and_stamp, stamp_and_name, name_stamp_and_name, key_name_stamp_and_name, stamp_and_values, key_stamp_and_values, some_columns, stamp_and_columns, name_and_columns}
 use Rattle.ts_command.specs.Routines.{routine_of}
 use Rattle.ts_command.specs.declared.command.Command.{Command}
 use Rattle.ts_command.specs.declared.command.Command.TheVariants as commands

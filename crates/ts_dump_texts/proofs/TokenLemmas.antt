@@ -5,13 +5,11 @@ use Rattle.std.proofs.Math.Seq.{take-append_seam, drop-append_seam}
 use Rattle.std.proofs.lemmas.Bool.{cases_Bool, and_parts}
 use Rattle.std.proofs.lemmas.Bool.Decides.{nat_tests}
 use Rattle.ts_base.specs.Name.{is_blank, begins_word, continues_word, is_word, is_name, is_key, is_text_byte, is_text, key_if_any}
-use Rattle.ts_row.specs.Printed.{quoted}
-use Rattle.ts_text.specs.Blanks.{unblanked}
-use Rattle.ts_text.specs.Phrase.{Read, taken, taken_front, token, name_as}
+use Rattle.ts_row.specs.Row.{quoted}
+use Rattle.ts_text.specs.Phrase.{unblanked, Read, taken, taken_front, token, name_as}
 use Rattle.ts_text.specs.declared.token.TokenKind.{TokenKind}
 use Rattle.ts_text.specs.declared.token.TokenKind.TheVariants.{Word, Text}
-use Rattle.ts_tokens.specs.Tokens.{closing, later, or_before, of_kind, front}
-use Rattle.ts_tokens.specs.Text.{undoubled, said}
+use Rattle.ts_tokens.specs.Tokens.{closing, later, or_before, of_kind, front, undoubled, said}
 use Rattle.ts_tokens.proofs.CallerLemmas.{text_byte, single_quote, doubled_quote, undoubled-cons}
 use Rattle.ts_arguments.specs.Arguments.{a_name, a_key, key_in}
 use Rattle.ts_dump_texts.specs.Texts.{quoted_before}

@@ -4,13 +4,10 @@ use Rattle.std.specs.List.{list_all}
 use Rattle.ts_base.specs.Name.{is_name, is_key}
 use Rattle.ts_base.specs.Moment.{IsStamp}
 use Rattle.ts_row.specs.declared.kind.Column.{Column}
-use Rattle.ts_row.specs.RowType.{Heading, is_kind, is_row_type}
-use Rattle.ts_row.specs.Row.{Row, fits, marked, row_of}
-use Rattle.ts_pattern.specs.Plan.{Plan}
-use Rattle.ts_pattern.specs.Runs.{is_pattern}
-use Rattle.ts_pattern.specs.Grammar.{printed_plan}
+use Rattle.ts_row.specs.Row.{Heading, is_kind, is_row_type, Row, fits, marked, row_of}
+use Rattle.ts_pattern.specs.Patterns.{Plan, is_pattern, printed_plan}
 use Rattle.ts_calendar.specs.declared.text.CalendarText.{CalendarText}
-use Rattle.ts_calendar.specs.Text.{IsSound, printed_calendar}
+use Rattle.ts_calendar.specs.Calendars.{IsSound, printed_calendar}
 use Rattle.ts_command.specs.declared.command.Command.TheVariants as commands
 use Rattle.ts_command.specs.Grammar.{command_of}
 use Rattle.ts_dump_texts.specs.Texts.{row_type_text, pattern_text, calendar_text, container_text, irregular_text}

@@ -3,7 +3,7 @@ use Rattle.std.specs.Prelude.{ℕ, Bool, if◌then◌else◌, List, [], ◌∷�
 use Rattle.std.specs.List.{flat_map}
 use Rattle.std.specs.FinMap.{entries}
 use Rattle.ts_row.specs.declared.kind.Column.{Column}
-use Rattle.ts_row.specs.Element.{Element}
+use Rattle.ts_row.specs.Row.{Element}
 use Rattle.ts_model.specs.Catalogue.{SeriesKind, Irregular, Regular, Series, Catalogue, columns_of}
 use Rattle.ts_dump_texts.specs.Texts.{row_type_text, pattern_text, calendar_text, container_text, irregular_text}
 use Rattle.ts_dump_texts.specs.Texts.{regular_text, element_text, hiding_text}

@@ -3,8 +3,7 @@ use Rattle.std.specs.Prelude.{◌≡◌, ℕ, ◌==◌, ◌&&◌, ◌≤◌, Boo
 use Rattle.std.specs.Prelude.{◌++◌, length, map}
 use Rattle.std.specs.List.{flat_map}
 use Rattle.ts_base.specs.Name.{begins_word}
-use Rattle.ts_command.specs.Script.{requests, last_request}
-use Rattle.ts_command.specs.Grammar.{command_of}
+use Rattle.ts_command.specs.Grammar.{requests, last_request, command_of}
 use Rattle.ts_command.specs.declared.command.Command.{Command}
 
 -- a text and a line feed

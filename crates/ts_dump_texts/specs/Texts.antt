@@ -2,18 +2,15 @@
 use Rattle.std.specs.Prelude.{ℕ, ℤ, Ok, Err, List, [], ◌∷◌, ◌++◌, codes}
 use Rattle.std.specs.List.{flat_map}
 use Rattle.std.specs.Fmt.{decimal}
-use Rattle.ts_base.specs.StampText.{stamp_text}
+use Rattle.ts_base.specs.Moment.{stamp_text}
 use Rattle.ts_row.specs.declared.kind.ColumnKind.{ColumnKind}
 use Rattle.ts_row.specs.declared.kind.ColumnKind.TheVariants.{SmallInt, Integer, BigInt, Decimal, VarChar}
 use Rattle.ts_row.specs.declared.kind.Column.{Column}
 use Rattle.ts_row.specs.declared.value.Literal.{Literal}
-use Rattle.ts_row.specs.RowType.{Heading}
-use Rattle.ts_row.specs.Row.{Row}
-use Rattle.ts_row.specs.Printed.{quoted, row_text}
-use Rattle.ts_pattern.specs.Plan.{Plan}
-use Rattle.ts_pattern.specs.Grammar.{printed_plan}
+use Rattle.ts_row.specs.Row.{Heading, Row, quoted, row_text}
+use Rattle.ts_pattern.specs.Patterns.{Plan, printed_plan}
 use Rattle.ts_calendar.specs.declared.text.CalendarText.{CalendarText}
-use Rattle.ts_calendar.specs.Text.{printed_calendar}
+use Rattle.ts_calendar.specs.Calendars.{printed_calendar}
 use Rattle.ts_text.specs.Phrase.{Read, repeated}
 use Rattle.ts_arguments.specs.Arguments.{a_literal}
 

@@ -1,9 +1,9 @@
 -- What containers are charged, when a definition comes or goes on which no charge depends.
 use Rattle.std.proofs.Common.{◌≡◌, ℕ, zero, suc, ◌+◌, ◌==◌, if◌then◌else◌, Bool, true, false, Option, Some, None, List, [], ◌∷◌, set, refl, sym, ap, ◌∙◌, arith}
 use Rattle.std.specs.Option.{option_map, option_and_then, unwrap_or}
-use Rattle.ts_row.specs.RowType.{Heading}
+use Rattle.ts_row.specs.Row.{Heading}
 use Rattle.ts_space.specs.Directory.{Directory, places_of}
-use Rattle.ts_cells.specs.Cell.{page_room}
+use Rattle.ts_cells.specs.IrregularPage.{page_room}
 use Rattle.ts_model.specs.declared.kind.Kind.{Kind}
 use Rattle.ts_model.specs.declared.kind.Kind.TheVariants as kinds
 use Rattle.ts_model.specs.declared.def.Def.{Def}

@@ -3,8 +3,7 @@ use Rattle.std.proofs.Common.{◌≡◌, ℕ, ℤ, Bool, true, false, cond, Opti
 use Rattle.std.specs.Prelude.{int_lt}
 use Rattle.ts_base.specs.declared.refusal.Refusal.{Refusal}
 use Rattle.ts_base.specs.declared.refusal.Refusal.TheVariants as refusals
-use Rattle.ts_row.specs.Row.{Row}
-use Rattle.ts_row.specs.Element.{Element}
+use Rattle.ts_row.specs.Row.{Row, Element}
 use Rattle.ts_irregular.specs.Edit.{element_at}
 use Rattle.ts_series.specs.declared.edits.EditKind.{EditKind}
 use Rattle.ts_series.specs.Edit.{target}

@@ -7,17 +7,16 @@ use Rattle.ts_base.specs.declared.refusal.Refusal.{Refusal}
 use Rattle.ts_base.specs.declared.refusal.Refusal.TheVariants.{Missing}
 use Rattle.ts_page.specs.Pages.{Contents}
 use Rattle.ts_row.specs.declared.kind.Column.{Column}
-use Rattle.ts_row.specs.Row.{Row, marked}
-use Rattle.ts_row.specs.Element.{Element}
+use Rattle.ts_row.specs.Row.{Row, marked, Element}
 use Rattle.ts_space.specs.declared.place.Place.{Place}
 use Rattle.ts_space.specs.declared.moved.Moved.{Moved}
 use Rattle.ts_space.specs.Place.{count_of}
 use Rattle.ts_space.specs.Charge.{irregular_charge}
 use Rattle.ts_space.proofs.ChargeLemmas.{charge_grows}
-use Rattle.ts_cells.specs.Cell.{page_room}
+use Rattle.ts_cells.specs.IrregularPage.{page_room}
 use Rattle.ts_irregular.specs.Edit.{element_at, with_element, without_element}
 use Rattle.ts_irregular.specs.OnePage.{IsPlace}
-use Rattle.ts_sheets.specs.Chain.{IsChain, all_in}
+use Rattle.ts_sheets.specs.Stamped.{IsChain, all_in}
 use Rattle.ts_sheets.specs.Places as chain
 use Rattle.ts_chain.specs.Call as call
 use Rattle.ts_sheets.proofs.OrderLemmas.{pages_in_order}

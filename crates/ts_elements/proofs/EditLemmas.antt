@@ -7,18 +7,16 @@ use Rattle.ts_base.specs.declared.refusal.Refusal.{Refusal}
 use Rattle.ts_base.specs.declared.refusal.Refusal.TheVariants as refusals
 use Rattle.ts_row.specs.declared.kind.Column.{Column}
 use Rattle.ts_row.specs.declared.value.Literal.{Literal}
-use Rattle.ts_row.specs.RowType.{Heading}
-use Rattle.ts_row.specs.Row.{Row}
-use Rattle.ts_row.specs.Element.{Element}
+use Rattle.ts_row.specs.Row.{Heading, Row, Element}
 use Rattle.ts_space.specs.declared.place.Place.{Place}
 use Rattle.ts_space.specs.Place.{IsRising}
 use Rattle.ts_space.specs.Directory.{Directory, places_of}
-use Rattle.ts_cells.specs.Cell.{page_room}
+use Rattle.ts_cells.specs.IrregularPage.{page_room}
 use Rattle.ts_irregular.specs.Edit.{element_at, with_element}
-use Rattle.ts_sheets.specs.Placing.{place_for}
+use Rattle.ts_sheets.specs.Stamped.{place_for}
 use Rattle.ts_series.specs.declared.edits.EditKind.{EditKind}
 use Rattle.ts_series.specs.declared.edits.EditKind.TheVariants.{Put, PutNoDups, Insert, Update}
-use Rattle.ts_calendar.specs.Plan.{CalendarPlan}
+use Rattle.ts_calendar.specs.Calendars.{CalendarPlan}
 use Rattle.ts_offset.specs.Grid.{GridPlan}
 use Rattle.ts_offset.specs.declared.shape.Shape.{Shape}
 use Rattle.ts_offset.specs.declared.shape.Shape.TheVariants as shapes

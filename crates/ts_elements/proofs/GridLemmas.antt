@@ -7,23 +7,20 @@ use Rattle.std.specs.Option.{option_map}
 use Rattle.ts_base.specs.declared.refusal.Refusal.{Refusal}
 use Rattle.ts_page.specs.Pages.{Contents}
 use Rattle.ts_row.specs.declared.kind.Column.{Column}
-use Rattle.ts_row.specs.Row.{Row, marked}
-use Rattle.ts_row.specs.Element.{Element}
+use Rattle.ts_row.specs.Row.{Row, marked, Element}
 use Rattle.ts_space.specs.declared.place.Place.{Place}
 use Rattle.ts_space.specs.declared.moved.Moved.{Moved}
 use Rattle.ts_space.specs.Moved.{moved_to}
 use Rattle.ts_space.specs.Place.{IsRising, pages_of, place_at}
 use Rattle.ts_irregular.specs.Edit.{element_at, with_element, without_element}
-use Rattle.ts_regular.specs.Cell.{regular_room, base_of}
-use Rattle.ts_regular.specs.Offsets as offsets
-use Rattle.ts_regular.specs.Offsets.{OffsetElement}
+use Rattle.ts_regular.specs.RegularPage.{regular_room, base_of, OffsetElement}
+use Rattle.ts_regular.specs.RegularPage as offsets
 use Rattle.ts_regular.specs.Places as cells
 use Rattle.ts_regular.specs.Places.{all_in as all_at}
 use Rattle.ts_regular.specs.Call as call
 use Rattle.ts_regular.specs.Range.{is_between, outside}
 use Rattle.ts_regular.proofs.PlaceLemmas.{pages_rise}
-use Rattle.ts_sheets.specs.Range.{within_range, without_range}
-use Rattle.ts_sheets.specs.Stamped.{stamped, HaveStarts}
+use Rattle.ts_sheets.specs.Stamped.{within_range, without_range, stamped, HaveStarts}
 use Rattle.ts_regular_edits.specs.Address.{IsAddressed}
 use Rattle.ts_regular_edits.specs.Edit as edit
 use Rattle.ts_regular_edits.specs.Element as element
@@ -34,7 +31,7 @@ use Rattle.ts_sheets.proofs.ChargeLemmas.{charged_with}
 use Rattle.ts_series.specs.declared.edits.EditKind.{EditKind}
 use Rattle.ts_series.specs.declared.edits.Edited.{Edited}
 use Rattle.ts_series.specs.declared.edits.Edited.TheVariants as edited
-use Rattle.ts_calendar.specs.Intervals.{IsLaid}
+use Rattle.ts_calendar.specs.Calendars.{IsLaid}
 use Rattle.ts_offset.specs.Grid.{GridPlan, stamp_of}
 use Rattle.ts_offset.specs.declared.shape.Shape.TheVariants.{Regular}
 use Rattle.ts_model.specs.Charge.{elements_charge}

@@ -6,9 +6,7 @@ use Rattle.ts_base.specs.declared.fault.Trouble.{Trouble}
 use Rattle.ts_base.specs.declared.refusal.Refusal.{Refusal}
 use Rattle.ts_base.specs.declared.refusal.Refusal.TheVariants as refusals
 use Rattle.ts_page.specs.Pages.{Contents, IsLawful}
-use Rattle.ts_row.specs.RowType.{Heading}
-use Rattle.ts_row.specs.Row.{marked}
-use Rattle.ts_row.specs.Element.{Element}
+use Rattle.ts_row.specs.Row.{Heading, marked, Element}
 use Rattle.ts_space.specs.Directory.{places_of}
 use Rattle.ts_irregular.specs.Edit.{element_at, with_element}
 use Rattle.ts_offset.specs.declared.shape.Shape.{Shape}
@@ -19,7 +17,7 @@ use Rattle.ts_layout.specs.Meaning.{Layout, elements_at, series_of, catalogue_of
 use Rattle.ts_answer.specs.declared.effect.Effect.TheVariants.{Pages}
 use Rattle.ts_answer.specs.declared.stop.Stop.TheVariants as stops
 use Rattle.ts_answer.specs.Answer.{Tried, Answered, ◌>>=◌, wanted, row_at, an_address, addressed, beyond_old_format, with_elements, mark_element, carried_out, outcome, with_element as with_element_of}
-use Rattle.ts_command.specs.Writing.{is_writing}
+use Rattle.ts_command.specs.Boundary.{is_writing}
 use Rattle.ts_answer.specs.Reply.{stamp_line}
 use Rattle.ts_answer.specs.Slots.{IsSlotNamed}
 use Rattle.ts_answer.specs.Tried.{IsRefusedAs}

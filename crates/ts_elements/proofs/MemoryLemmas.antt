@@ -4,17 +4,16 @@ use Rattle.std.specs.Option.{option_map, unwrap_or}
 use Rattle.std.proofs.lemmas.List.Sums.{sum_by-cons}
 use Rattle.ts_page.specs.Pages.{Contents}
 use Rattle.ts_row.specs.declared.kind.Column.{Column}
-use Rattle.ts_row.specs.RowType.{Heading}
+use Rattle.ts_row.specs.Row.{Heading}
 use Rattle.ts_space.specs.declared.place.Place.{Place}
 use Rattle.ts_space.specs.Directory.{Directory, places_of}
-use Rattle.ts_cells.specs.Cell.{page_room}
+use Rattle.ts_cells.specs.IrregularPage.{page_room}
 use Rattle.ts_offset.specs.declared.shape.Shape.{Shape}
 use Rattle.ts_offset.specs.declared.shape.Shape.TheVariants.{Irregular, Regular}
 use Rattle.ts_model.specs.declared.kind.Kind.TheVariants as kinds
 use Rattle.ts_model.specs.declared.def.Def.{Def}
 use Rattle.ts_model.specs.Definitions.{Definitions, ContainerDef, SeriesDef, of_container, at_slot}
-use Rattle.ts_layout.specs.Limits.{IsSlotOf}
-use Rattle.ts_layout.specs.Meaning.{def_at, grid_in, shape_of, shape_at, heading_in, heading_at, heading_of_container}
+use Rattle.ts_layout.specs.Meaning.{IsSlotOf, def_at, grid_in, shape_of, shape_at, heading_in, heading_at, heading_of_container}
 use Rattle.ts_layout.specs.Sheets.{room_of}
 use Rattle.ts_layout.specs.Charges.{places_charge, container_charge}
 use Rattle.ts_layout.specs.Placed.{AreMoved}

@@ -5,14 +5,12 @@ use Rattle.ts_base.specs.declared.refusal.Refusal.{Refusal}
 use Rattle.ts_base.specs.declared.refusal.Refusal.TheVariants as refusals
 use Rattle.ts_page.specs.Pages.{Contents, IsLawful}
 use Rattle.ts_row.specs.declared.value.Literal.{Literal}
-use Rattle.ts_row.specs.RowType.{Heading}
-use Rattle.ts_row.specs.Row.{Row}
-use Rattle.ts_row.specs.Element.{Element}
+use Rattle.ts_row.specs.Row.{Heading, Row, Element}
 use Rattle.ts_space.specs.declared.place.Place.{Place}
 use Rattle.ts_space.specs.declared.moved.Moved.{Moved}
 use Rattle.ts_space.specs.Moved.{moved_to}
 use Rattle.ts_space.specs.Directory.{places_of}
-use Rattle.ts_cells.specs.Cell.{page_room}
+use Rattle.ts_cells.specs.IrregularPage.{page_room}
 use Rattle.ts_irregular.specs.Edit.{with_element}
 use Rattle.ts_series.specs.declared.edits.EditKind.{EditKind}
 use Rattle.ts_series.specs.declared.edits.EditKind.TheVariants as kinds
@@ -25,7 +23,7 @@ use Rattle.ts_layout.specs.Held.{IsHeldOf}
 use Rattle.ts_answer.specs.declared.effect.Effect.TheVariants.{Pages, Places}
 use Rattle.ts_answer.specs.declared.stop.Stop.TheVariants as stops
 use Rattle.ts_answer.specs.Answer.{outcome}
-use Rattle.ts_command.specs.Writing.{is_writing}
+use Rattle.ts_command.specs.Boundary.{is_writing}
 use Rattle.ts_answer.specs.Reply.{stamp_line}
 use Rattle.ts_answer.specs.View.{View, Shows, KeepsRules}
 use Rattle.ts_answer.specs.CarriedOut.{CarriedOut, Grows, Stays}

@@ -8,8 +8,7 @@ use Rattle.std.specs.FinMap.{get, remove, entries, from_entries}
 use Rattle.ts_command.specs.declared.command.Command.{Command}
 use Rattle.ts_command.specs.declared.command.Command.TheVariants.{DelElem, DelClip}
 use Rattle.ts_page.specs.Pages.{Contents, IsLawful}
-use Rattle.ts_row.specs.RowType.{Heading}
-use Rattle.ts_row.specs.Element.{Element}
+use Rattle.ts_row.specs.Row.{Heading, Element}
 use Rattle.ts_space.specs.declared.place.Place.{Place}
 use Rattle.ts_space.specs.declared.moved.Come.{Come}
 use Rattle.ts_space.specs.declared.moved.Come.TheVariants as comes
@@ -18,7 +17,7 @@ use Rattle.ts_space.specs.Place.{pages_of}
 use Rattle.ts_space.specs.Moved.{list_of, moved_to}
 use Rattle.ts_space.specs.Directory.{places_of}
 use Rattle.ts_irregular.specs.Edit.{element_at, without_element}
-use Rattle.ts_sheets.specs.Range.{is_within, within_range, without_range}
+use Rattle.ts_sheets.specs.Stamped.{is_within, within_range, without_range}
 use Rattle.ts_offset.specs.declared.shape.Shape.{Shape}
 use Rattle.ts_model.specs.Catalogue.{Elements}
 use Rattle.ts_layout.specs.Meaning.{Layout, elements_at, series_of, catalogue_of}

@@ -3,18 +3,16 @@ use Rattle.std.proofs.Common.{◌≡◌, ℕ, ◌+◌, ◌<◌, ◌≤◌, Bool,
 use Rattle.std.proofs.lemmas.List.Sorted.{IsPermutation-refl}
 use Rattle.ts_command.specs.declared.command.Command.{Command}
 use Rattle.ts_page.specs.Pages.{Contents, IsLawful}
-use Rattle.ts_row.specs.RowType.{Heading}
-use Rattle.ts_row.specs.Element.{Element}
+use Rattle.ts_row.specs.Row.{Heading, Element}
 use Rattle.ts_space.specs.declared.place.Place.{Place}
 use Rattle.ts_space.specs.Place.{pages_of}
 use Rattle.ts_space.specs.Directory.{Directory, places_of}
-use Rattle.ts_cells.specs.Cell.{page_room}
+use Rattle.ts_cells.specs.IrregularPage.{page_room}
 use Rattle.ts_offset.specs.declared.shape.Shape.{Shape}
 use Rattle.ts_model.specs.Catalogue.{Catalogue}
 use Rattle.ts_model.specs.Definitions.{Definitions, ContainerDef, SeriesDef}
-use Rattle.ts_layout.specs.Limits.{AreOfFormat}
+use Rattle.ts_layout.specs.Meaning.{AreOfFormat, Layout, heading_at, shape_at, series_of, catalogue_of, charge_of_container}
 use Rattle.ts_layout.specs.Sheets.{Sheet, room_of}
-use Rattle.ts_layout.specs.Meaning.{Layout, heading_at, shape_at, series_of, catalogue_of, charge_of_container}
 use Rattle.ts_layout.specs.Charges.{container_charge}
 use Rattle.ts_layout.specs.Placed.{AreMoved, IsPlaceIn}
 use Rattle.ts_layout.specs.Surveyed.{ListsPlaces}
@@ -23,7 +21,7 @@ use Rattle.ts_layout.specs.Held.{IsHeldOf, IsRewrittenIn}
 use Rattle.ts_layout.proofs.CallerLemmas.{one_of}
 use Rattle.ts_answer.specs.declared.effect.Effect.{Effect}
 use Rattle.ts_answer.specs.Answer.{outcome, with_elements}
-use Rattle.ts_command.specs.Writing.{is_writing}
+use Rattle.ts_command.specs.Boundary.{is_writing}
 use Rattle.ts_answer.specs.View.{View, Shows, KeepsRules}
 use Rattle.ts_answer.specs.CarriedOut.{CarriedOut, CanApply, Comes, Grows, is_nothing, definitions_after, lists_after}
 use Rattle.ts_answer.proofs.CallerLemmas.{held_same, grows_one}

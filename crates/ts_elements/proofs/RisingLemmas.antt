@@ -1,7 +1,7 @@
 -- Rising offsets with one more.
 use Rattle.std.proofs.Common.{ℕ, ◌<◌, List, [], ◌∷◌, sym, subst, arith}
 use Rattle.ts_row.specs.Row.{Row}
-use Rattle.ts_regular.specs.Offsets.{OffsetElement, AreRising, with_element}
+use Rattle.ts_regular.specs.RegularPage.{OffsetElement, AreRising, with_element}
 use Rattle.ts_regular.proofs.OffsetLemmas.{AreMore, by_order, rising_first, with_above, with_below, with_same}
 
 more_lower : (m n : ℕ) (es : List OffsetElement) → m < n → AreMore n es → AreMore m es

@@ -5,13 +5,12 @@ use Rattle.std.proofs.lemmas.List.Elements.{All-map, All-contains}
 use Rattle.std.proofs.lemmas.List.Sorted.{length_permutation}
 use Rattle.std.specs.FinMap.{get, remove}
 use Rattle.ts_command.specs.declared.command.Command.TheVariants.{DropSeries}
-use Rattle.ts_page.specs.Pages.{Contents, IsFreePage}
+use Rattle.ts_page.specs.Pages.{Contents, IsFreePage, first_element_page}
 use Rattle.ts_page.proofs.PagesLemmas.{zero_is_free}
 use Rattle.ts_space.specs.declared.place.Place.{Place}
 use Rattle.ts_space.specs.Place.{pages_of}
 use Rattle.ts_space.specs.Directory.{Directory, places_of}
 use Rattle.ts_row.specs.declared.kind.Column.{Column}
-use Rattle.ts_page.specs.Volume.{first_element_page}
 use Rattle.ts_irregular.specs.OnePage.{IsPlace}
 use Rattle.ts_regular.specs.Places as cells
 use Rattle.ts_offset.specs.declared.shape.Shape.{Shape}

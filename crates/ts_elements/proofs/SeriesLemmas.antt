@@ -2,12 +2,11 @@
 use Rattle.std.proofs.Common.{◌≡◌, ℕ, List, length, sym, ap, ◌∙◌}
 use Rattle.std.specs.FinMap.{len, len-entries}
 use Rattle.ts_row.specs.declared.kind.Column.{Column}
-use Rattle.ts_row.specs.Element.{Element}
+use Rattle.ts_row.specs.Row.{Element}
 use Rattle.ts_space.specs.declared.place.Place.{Place}
 use Rattle.ts_space.specs.Place.{IsRising}
 use Rattle.ts_space.specs.Charge.{irregular_charge}
-use Rattle.ts_cells.specs.Cell.{page_room}
-use Rattle.ts_cells.specs.IrregularPage.{AreRising}
+use Rattle.ts_cells.specs.IrregularPage.{page_room, AreRising}
 use Rattle.ts_chain.proofs.PutLemmas.{chained_count}
 use Rattle.ts_regular.specs.Places.{all_in as all_at}
 use Rattle.ts_regular.proofs.PlaceLemmas.{pages_rise}

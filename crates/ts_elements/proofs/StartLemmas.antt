@@ -7,8 +7,8 @@ use Rattle.std.specs.FinMap.Entries.{by_order}
 use Rattle.std.proofs.lemmas.List.Elements.{All-cons, All-head, All-tail, All-filter}
 use Rattle.ts_row.specs.Row.{Row}
 use Rattle.ts_offset.specs.Grid.{GridPlan, stamp_of}
-use Rattle.ts_regular.specs.Offsets as offsets
-use Rattle.ts_regular.specs.Offsets.{OffsetElement}
+use Rattle.ts_regular.specs.RegularPage as offsets
+use Rattle.ts_regular.specs.RegularPage.{OffsetElement}
 use Rattle.ts_sheets.specs.Stamped.{HaveStarts}
 use Rattle.ts_shelf.proofs.StartLemmas.{HasStart}
 

@@ -5,13 +5,12 @@ use Rattle.ts_base.specs.declared.refusal.Refusal.{Refusal}
 use Rattle.ts_base.specs.declared.refusal.Refusal.TheVariants.{Missing}
 use Rattle.ts_page.specs.Pages.{Contents}
 use Rattle.ts_row.specs.declared.kind.Column.{Column}
-use Rattle.ts_row.specs.Row.{Row, marked}
-use Rattle.ts_row.specs.Element.{Element}
+use Rattle.ts_row.specs.Row.{Row, marked, Element}
 use Rattle.ts_space.specs.declared.place.Place.{Place}
 use Rattle.ts_space.specs.declared.moved.Moved.{Moved}
 use Rattle.ts_space.specs.Moved.{moved_to}
 use Rattle.ts_irregular.specs.Edit.{element_at, with_element, without_element}
-use Rattle.ts_sheets.specs.Range.{within_range, without_range}
+use Rattle.ts_sheets.specs.Stamped.{within_range, without_range}
 use Rattle.ts_series.specs.declared.edits.EditKind.{EditKind}
 use Rattle.ts_series.specs.declared.edits.Edited.{Edited}
 use Rattle.ts_series.specs.declared.edits.Edited.TheVariants as edited

@@ -1,7 +1,6 @@
 -- What the drop of a series adds to a record.
 use Rattle.std.specs.Prelude.{◌≡◌, ℕ, ◌+◌, ◌*◌, ◌<◌, ◌≤◌, IsTrue, length}
-use Rattle.ts_page.specs.Pages.{Contents}
-use Rattle.ts_page.specs.Volume.{first_element_page, image_entry_size, free_entry_size}
+use Rattle.ts_page.specs.Pages.{Contents, first_element_page, image_entry_size, free_entry_size}
 use Rattle.ts_model.specs.declared.kind.Kind.TheVariants as kinds
 use Rattle.ts_model.specs.Definitions.{series_slots}
 use Rattle.ts_layout.specs.Slot.{page_of_slot}

@@ -1,8 +1,7 @@
 -- The row of literals for a series, and the commands that a routine stands for.
 use Rattle.std.specs.Prelude.{◌≡◌, ℕ, Bool, true, false, Ok, ℤ, List}
 use Rattle.ts_row.specs.declared.value.Literal.{Literal}
-use Rattle.ts_row.specs.RowType.{Heading}
-use Rattle.ts_row.specs.Row.{Row}
+use Rattle.ts_row.specs.Row.{Heading, Row}
 use Rattle.ts_command.specs.declared.command.Command.{Command}
 use Rattle.ts_command.specs.declared.command.Command.TheVariants.{PutElem, PutElemNoDups, InsElem, UpdElem, HideElem}
 use Rattle.ts_command.specs.declared.command.Command.TheVariants.{RevealElem}

@@ -1,8 +1,8 @@
 -- What the container of a series has for it.
 use Rattle.std.specs.Prelude.{◌≡◌, ℕ, ◌+◌}
-use Rattle.ts_row.specs.RowType.{Heading}
+use Rattle.ts_row.specs.Row.{Heading}
 use Rattle.ts_space.specs.Directory.{Directory, places_of}
-use Rattle.ts_cells.specs.Cell.{page_room}
+use Rattle.ts_cells.specs.IrregularPage.{page_room}
 use Rattle.ts_model.specs.Definitions.{Definitions, ContainerDef, SeriesDef}
 use Rattle.ts_layout.specs.Charges.{container_charge, places_charge}
 

@@ -5,7 +5,7 @@ ghost use Rattle.ts_row.specs.Row.{fits};
 ghost use Rattle.ts_space.specs.Place.{IsRising, count_of};
 ghost use Rattle.ts_space.specs.Directory.{places_of};
 ghost use Rattle.ts_page.specs.Pages.{Answered};
-ghost use Rattle.ts_cells.specs.Cell.{page_room};
+ghost use Rattle.ts_cells.specs.IrregularPage.{page_room};
 ghost use Rattle.ts_model.specs.Definitions.{series_slots};
 ghost use Rattle.ts_answer.specs.CarriedOut.{Grows};
 ghost use Rattle.ts_elements.specs.Stamps.{ArePlaces};

@@ -1,7 +1,6 @@
 // The element of a series that a stamp addresses, read on its pages by its shape.
 ghost use Rattle.std.specs.Prelude.{◌≡◌, ◌<◌, IsTrue, IfOk, IfSome, Some, option_map, option_to_list};
-ghost use Rattle.ts_row.specs.Row.{fits};
-ghost use Rattle.ts_row.specs.Element.{seen};
+ghost use Rattle.ts_row.specs.Row.{fits, seen};
 ghost use Rattle.ts_space.specs.Directory.{places_of};
 ghost use Rattle.ts_irregular.specs.Call.{Reads};
 ghost use Rattle.ts_model.specs.Definitions.{series_slots};

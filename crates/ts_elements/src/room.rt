@@ -1,9 +1,9 @@
 // What a series may be charged for: its container's quota, less what the other series of the container are charged.
 ghost use Rattle.std.specs.Prelude.{◌≡◌, ◌+◌, ◌-◌, ◌≤◌, ◌<◌, ◌^◌, Some, length, min};
 ghost use Rattle.ts_base.specs.declared.refusal.Refusal.TheVariants.{ContainerFull};
-ghost use Rattle.ts_row.specs.RowType.{Heading};
+ghost use Rattle.ts_row.specs.Row.{Heading};
 ghost use Rattle.ts_space.specs.Directory.{places_of};
-ghost use Rattle.ts_cells.specs.Cell.{page_room};
+ghost use Rattle.ts_cells.specs.IrregularPage.{page_room};
 ghost use Rattle.ts_model.specs.Definitions.{ContainerDef, SeriesDef, container_slots, series_slots, IsDefinitions};
 ghost use Rattle.ts_layout.specs.Meaning.{KeepLimits, heading_at};
 ghost use Rattle.ts_layout.specs.Charges.{IsCountable, KeepQuotas, charge_in, places_charge};

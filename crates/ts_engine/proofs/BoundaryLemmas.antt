@@ -7,9 +7,8 @@ use Rattle.ts_command.specs.declared.boundary.Boundary.{Boundary}
 use Rattle.ts_command.specs.declared.boundary.Boundary.TheVariants.{Opens, Commits, RollsBack, Alone}
 use Rattle.ts_command.specs.Boundary.{boundary_of, is_between}
 use Rattle.ts_model.specs.Catalogue.{Catalogue}
-use Rattle.ts_answer.specs.Answer.{outcome, carried_out}
+use Rattle.ts_answer.specs.Answer.{outcome, carried_out, begun}
 use Rattle.ts_answer.specs.Reply.{ok_line}
-use Rattle.ts_answer.specs.State.{begun}
 use Rattle.ts_answer.specs.CarriedOut.{growth_of}
 use Rattle.ts_engine.specs.Transaction.{misplaced_in}
 use Rattle.ts_engine.specs.Work.{Boundaries, work_of}

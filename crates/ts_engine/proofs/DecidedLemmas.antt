@@ -3,16 +3,15 @@ use Rattle.std.proofs.Common.{◌≡◌, ℕ, ◌+◌, ◌<◌, ◌^◌, ℤ, po
 use Rattle.std.proofs.lemmas.Int.{ints}
 use Rattle.ts_base.specs.declared.fault.Trouble.{Trouble}
 use Rattle.ts_command.specs.declared.command.Command.{Command}
-use Rattle.ts_page.specs.Volume.{first_element_page}
+use Rattle.ts_page.specs.Pages.{first_element_page, Contents}
 use Rattle.ts_space.specs.Directory.{Directory}
 use Rattle.ts_model.specs.declared.kind.Kind.{Kind}
 use Rattle.ts_model.specs.declared.def.Def.{Def}
 use Rattle.ts_model.specs.Definitions.{Definitions}
-use Rattle.ts_page.specs.Pages.{Contents}
 use Rattle.ts_answer.specs.declared.stop.Stop.{Stop}
 use Rattle.ts_answer.specs.CarriedOut.{ReadOut}
 use Rattle.ts_answer.specs.View.{View}
-use Rattle.ts_command.specs.Writing.{is_writing}
+use Rattle.ts_command.specs.Boundary.{is_writing}
 use Rattle.ts_answer.specs.Decided.{IsDecision, FitsSlot}
 use Rattle.ts_answer.specs.Reading.{IsSaid}
 use Rattle.ts_engine.specs.Work.{IsDecided}

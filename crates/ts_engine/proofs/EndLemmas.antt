@@ -4,7 +4,7 @@ use Rattle.std.proofs.Common.{◌≡◌, ℕ, ◌≤◌, Bool, true, false, if�
 use Rattle.ts_command.specs.declared.command.Command.{Command}
 use Rattle.ts_disk.specs.Device.{Device}
 use Rattle.ts_page.specs.Pages.{Contents}
-use Rattle.ts_journal.specs.Entry.{Entry, entries_bytes}
+use Rattle.ts_journal.specs.Journal.{Entry, entries_bytes}
 use Rattle.ts_store.specs.OpenBatch.{State, IsClosed, to_commit, read_pages, contents_over}
 use Rattle.ts_store.specs.OpenBatch.{rolled_back as store_rolled_back}
 use Rattle.ts_store.proofs.CallerLemmas.{commit_bytes}

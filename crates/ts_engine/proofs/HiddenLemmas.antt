@@ -1,7 +1,7 @@
 -- What a survey tells of hidden elements, as marks that cover the catalogue of what it found.
 use Rattle.std.proofs.Common.{◌≡◌, ℕ, zero, suc, ◌<◌, Bool, true, false, ◌==◌, if◌then◌else◌, Option, Some, List, [], ◌∷◌, length, refl, ap, sym, subst, arith}
 use Rattle.std.proofs.lemmas.Bool.{eqb-true}
-use Rattle.ts_row.specs.Element.{Element, has_hidden}
+use Rattle.ts_row.specs.Row.{Element, has_hidden}
 use Rattle.ts_model.specs.declared.kind.Kind.TheVariants as kinds
 use Rattle.ts_model.specs.Catalogue.{Series}
 use Rattle.ts_model.specs.Definitions.{at_slot}

@@ -1,7 +1,6 @@
 -- What a journal that is emptied leaves of what bytes mean.
 use Rattle.std.proofs.Common.{◌≡◌, ℕ, List, length, sym, ◌∙◌}
-use Rattle.ts_journal.specs.Entry.{Entry, AreAllowed}
-use Rattle.ts_journal.specs.Journal.{page_count, pages, ReadsButFreed}
+use Rattle.ts_journal.specs.Journal.{Entry, AreAllowed, page_count, pages, ReadsButFreed}
 use Rattle.ts_store.proofs.CallerLemmas.{same_but_freed}
 use Rattle.ts_model.specs.Catalogue.{Catalogue}
 use Rattle.ts_volume.specs.Volume.{MeansCatalogue}

@@ -2,12 +2,11 @@
 use Rattle.std.proofs.Common.{◌≡◌, ◌-◌, ℕ, Bool, IsTrue, None, Result, Ok, Err, OnOk, IsErrAnd, List, length, refl, ap, sym, ◌∙◌, subst, arith}
 use Rattle.ts_base.specs.declared.fault.StoreFault.{StoreFault}
 use Rattle.ts_disk.specs.Device.{Device, Lawful}
-use Rattle.ts_page.specs.Pages.{Contents, EqualPages, with_page}
-use Rattle.ts_page.specs.Volume.{first_element_page}
+use Rattle.ts_page.specs.Pages.{Contents, EqualPages, with_page, first_element_page}
 use Rattle.ts_store.specs.OpenBatch.{read_pages, contents_over}
 use Rattle.ts_store.specs.Undisturbed.{Undisturbed}
 use Rattle.ts_model.specs.Catalogue.{Catalogue, in_newest_format, newest_format}
-use Rattle.ts_answer.specs.State.{State, resting, newest}
+use Rattle.ts_answer.specs.Answer.{State, resting, newest}
 use Rattle.ts_model.specs.Definitions.{Definitions, Tables, with_format}
 use Rattle.ts_space.specs.Directory.{Directory}
 use Rattle.ts_layout.specs.Slot.{header_bytes}

@@ -4,8 +4,7 @@ use Rattle.std.specs.declared.alloc.AllocError.{AllocError}
 use Rattle.std.proofs.Common.{◌≡◌, inl, inr, ⊎_elim, ℕ, ◌+◌, Bool, IsTrue, None, Some, Option, IfSome, Result, Ok, Err, List, length, refl, ap, sym, ◌∙◌, subst}
 use Rattle.ts_disk.specs.Device.{Device, Lawful, Rose, LeavesOnly}
 use Rattle.ts_disk.proofs.Moments.{leaves_map}
-use Rattle.ts_page.specs.Pages.{Contents}
-use Rattle.ts_page.specs.Volume.{first_element_page}
+use Rattle.ts_page.specs.Pages.{Contents, first_element_page}
 use Rattle.ts_journal.specs.Moment.{OnlyReads}
 use Rattle.ts_store.specs.OpenBatch.{IsClosed, read_pages, contents_over}
 use Rattle.ts_store.specs.OpenBatch.{rolled_back as store_rolled_back}
@@ -14,7 +13,7 @@ use Rattle.ts_model.specs.Catalogue.{Catalogue}
 use Rattle.ts_layout.specs.Meaning.{Layout, HoldsLayout, IsSound, Means, catalogue_of}
 use Rattle.ts_layout.specs.Placed.{AreKept}
 use Rattle.ts_container.specs.KeptCharges.{AreCharges}
-use Rattle.ts_answer.specs.State.{State, Transaction, resting, newest}
+use Rattle.ts_answer.specs.Answer.{State, Transaction, resting, newest}
 use Rattle.ts_engine.specs.declared.fault.StepFault.{StepFault}
 use Rattle.ts_engine.specs.declared.fault.StepFault.TheVariants.{Disk, Memory, Closed}
 use Rattle.ts_engine.specs.declared.transaction.Saved.{Saved}

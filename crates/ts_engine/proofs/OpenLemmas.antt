@@ -3,10 +3,8 @@ use Rattle.std.proofs.Common.{◌≡◌, ◌≢◌, inl, inr, ℕ, ◌+◌, ◌<
 use Rattle.std.proofs.lemmas.List.Sorted.{IsPermutation-refl}
 use Rattle.ts_disk.specs.Device.{Device, Lawful, Only, Rose, LeavesOnly}
 use Rattle.ts_disk.proofs.Moments.{then_on, leaves_map}
-use Rattle.ts_page.specs.Pages.{Contents, IsLawful}
-use Rattle.ts_page.specs.Volume.{first_element_page}
-use Rattle.ts_journal.specs.Entry.{AreAllowed}
-use Rattle.ts_journal.specs.Journal.{IsVolumeSize, page_count, pages, ReadsButFreed}
+use Rattle.ts_page.specs.Pages.{Contents, IsLawful, first_element_page}
+use Rattle.ts_journal.specs.Journal.{AreAllowed, IsVolumeSize, page_count, pages, ReadsButFreed}
 use Rattle.ts_journal.specs.Moment.{Keeps, OnlyReads, SamePages}
 use Rattle.ts_store.proofs.CallerLemmas.{keeps_then, reads_then, idle_reads, read_closed, counted, read_dropped, read_committed}
 use Rattle.ts_store.specs.OpenBatch.{State, IsOver, IsIdle, IsClosed, Settles, read_pages, contents_over}

@@ -2,8 +2,7 @@
 use Rattle.std.proofs.Common.{◌≡◌, inl, ℕ, Bool, IsTrue, Option, Some, None, List, [], length, refl, ap, sym, ◌∙◌, subst, arith}
 use Rattle.ts_disk.specs.Device.{Device, Lawful}
 use Rattle.ts_page.proofs.PagesLemmas.{lawful_same}
-use Rattle.ts_journal.specs.Entry.{Entry, entries_bytes, over}
-use Rattle.ts_journal.specs.Journal.{own_page, page_count, pages}
+use Rattle.ts_journal.specs.Journal.{Entry, entries_bytes, over, own_page, page_count, pages}
 use Rattle.ts_journal.specs.Moment.{OnlyReads}
 use Rattle.ts_store.proofs.CallerLemmas.{reads_none, counted, over_still, idle_reads}
 use Rattle.ts_store.specs.OpenBatch.{State as Store, AreInPlace, IsIdle, IsClosed, read_pages, contents_over}

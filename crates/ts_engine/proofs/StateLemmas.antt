@@ -7,13 +7,11 @@ use Rattle.ts_base.specs.declared.refusal.Refusal.TheVariants.{NotOpen, AlreadyO
 use Rattle.ts_command.specs.declared.command.Command.{Command}
 use Rattle.ts_command.specs.declared.boundary.Boundary.{Boundary}
 use Rattle.ts_command.specs.declared.boundary.Boundary.TheVariants.{Opens, Commits, RollsBack, Alone}
-use Rattle.ts_command.specs.Boundary.{boundary_of, is_between}
-use Rattle.ts_command.specs.Writing.{is_writing}
+use Rattle.ts_command.specs.Boundary.{boundary_of, is_between, is_writing}
 use Rattle.ts_page.specs.Pages.{Contents}
 use Rattle.ts_model.specs.Catalogue.{Catalogue}
-use Rattle.ts_answer.specs.Answer.{Answered, outcome, settled, ◌>>=◌, refused_if}
+use Rattle.ts_answer.specs.Answer.{Answered, outcome, settled, ◌>>=◌, refused_if, State, Transaction, resting, opened, newest_of, counted, within_transaction, begun, outside, inside, carried_out_in, run_outcome, run_answer}
 use Rattle.ts_answer.specs.Reply.{refusal_line}
-use Rattle.ts_answer.specs.State.{State, Transaction, resting, opened, newest_of, counted, within_transaction, begun, outside, inside, carried_out_in, run_outcome, run_answer}
 use Rattle.ts_engine.specs.declared.transaction.Saved.{Saved}
 use Rattle.ts_engine.specs.Engine.{IsSmall}
 use Rattle.ts_engine.specs.Transaction.{misplaced_in, counted_in}

@@ -6,11 +6,10 @@ use Rattle.ts_base.specs.declared.refusal.Refusal.{Refusal}
 use Rattle.ts_command.specs.declared.command.Command.{Command}
 use Rattle.ts_command.specs.declared.boundary.Boundary.{Boundary}
 use Rattle.ts_command.specs.declared.boundary.Boundary.TheVariants.{Opens, Commits, RollsBack}
-use Rattle.ts_command.specs.Boundary.{boundary_of, is_reading, is_between}
-use Rattle.ts_command.specs.Writing.{is_writing}
+use Rattle.ts_command.specs.Boundary.{boundary_of, is_reading, is_between, is_writing}
 use Rattle.ts_disk.specs.Device.{Device, Lawful, LeavesOnly}
 use Rattle.ts_disk.proofs.Moments.{leaves_map}
-use Rattle.ts_journal.specs.Entry.{Entry, entries_bytes}
+use Rattle.ts_journal.specs.Journal.{Entry, entries_bytes}
 use Rattle.ts_store.specs.OpenBatch.{AreInPlace, read_pages}
 use Rattle.ts_store.specs.OpenBatch.{rolled_back as store_rolled_back}
 use Rattle.ts_store.proofs.CallerLemmas.{reads_none}
@@ -18,9 +17,8 @@ use Rattle.ts_model.specs.Catalogue.{Catalogue}
 use Rattle.ts_model.specs.Definitions.{Tables}
 use Rattle.ts_space.specs.Directory.{Directory}
 use Rattle.ts_layout.specs.Meaning.{Means, catalogue_of}
-use Rattle.ts_answer.specs.Answer.{Answered, ◌>>=◌}
+use Rattle.ts_answer.specs.Answer.{Answered, ◌>>=◌, State, Transaction, resting, opened, newest, newest_of, begun, outside, inside, carried_out_in, run_outcome, run_answer}
 use Rattle.ts_answer.specs.Reply.{ok_line, number_line, refusal_line}
-use Rattle.ts_answer.specs.State.{State, Transaction, resting, opened, newest, newest_of, begun, outside, inside, carried_out_in, run_outcome, run_answer}
 use Rattle.ts_engine.specs.declared.fault.StepFault.{StepFault}
 use Rattle.ts_engine.specs.declared.fault.StepFault.TheVariants.{Disk, Memory, Closed}
 use Rattle.ts_engine.specs.declared.transaction.Saved.{Saved}

@@ -2,7 +2,7 @@
 use Rattle.std.specs.Prelude.{◌≡◌, Bool, Result, OnOk}
 use Rattle.ts_disk.specs.Device.{Device}
 use Rattle.ts_model.specs.Catalogue.{in_newest_format, newest_format}
-use Rattle.ts_answer.specs.State.{State, resting, committed}
+use Rattle.ts_answer.specs.Answer.{State, resting, committed}
 use Rattle.ts_engine.specs.declared.fault.StepFault.{StepFault}
 use Rattle.ts_engine.specs.Engine.{Kept}
 use Rattle.ts_engine.specs.Moves.{Moves}

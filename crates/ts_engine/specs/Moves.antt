@@ -2,7 +2,7 @@
 use Rattle.std.specs.Prelude.{◌≡◌, ◌⊎◌, Bool, IsTrue, Some, Result, OnOk, IfErr, List, ℕ}
 use Rattle.ts_disk.specs.Device.{Device, Rose, LeavesOnly}
 use Rattle.ts_journal.specs.Moment.{Keeps, OnlyReads}
-use Rattle.ts_answer.specs.State.{State, committed}
+use Rattle.ts_answer.specs.Answer.{State, committed}
 use Rattle.ts_engine.specs.declared.fault.StepFault.{StepFault}
 use Rattle.ts_engine.specs.declared.fault.StepFault.TheVariants.{Disk, Memory, Closed}
 use Rattle.ts_volume.specs.Volume.{MeansCatalogue}

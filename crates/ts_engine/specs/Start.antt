@@ -5,7 +5,7 @@ use Rattle.ts_journal.specs.Moment.{Keeps, OnlyReads}
 use Rattle.ts_recover.specs.declared.replay.RecoverFault.{RecoverFault}
 use Rattle.ts_recover.specs.declared.replay.RecoverFault.TheVariants as journal
 use Rattle.ts_model.specs.Catalogue.{Catalogue}
-use Rattle.ts_answer.specs.State.{resting}
+use Rattle.ts_answer.specs.Answer.{resting}
 use Rattle.ts_container.specs.declared.fault.SurveyFault.{SurveyFault}
 use Rattle.ts_container.specs.declared.fault.SurveyFault.TheVariants.{NotAStore, Failed, Memory}
 use Rattle.ts_engine.specs.declared.engine.Engine.{Engine}

@@ -10,7 +10,7 @@ use Rattle.ts_command.specs.declared.boundary.Boundary.{Boundary}
 use Rattle.ts_command.specs.declared.boundary.Boundary.TheVariants.{Opens, Commits, RollsBack, Alone}
 use Rattle.ts_disk.specs.Device.{Device}
 use Rattle.ts_store.specs.OpenBatch.{rolled_back as store_rolled_back}
-use Rattle.ts_answer.specs.State.{most_accepted, counted}
+use Rattle.ts_answer.specs.Answer.{most_accepted, counted}
 use Rattle.ts_container.specs.KeptCharges.{AreCharges}
 use Rattle.ts_engine.specs.declared.fault.StepFault.{StepFault}
 use Rattle.ts_engine.specs.declared.transaction.Saved.{Saved}

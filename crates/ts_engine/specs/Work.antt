@@ -8,8 +8,8 @@ use Rattle.ts_model.specs.declared.kind.Kind.TheVariants as kinds
 use Rattle.ts_container.specs.KeptCharges.{AreCharges}
 use Rattle.ts_model.specs.declared.def.Def.{Def}
 use Rattle.ts_model.specs.Definitions.{Definitions}
-use Rattle.ts_page.specs.Volume.{first_element_page}
-use Rattle.ts_command.specs.Writing.{is_writing}
+use Rattle.ts_page.specs.Pages.{first_element_page}
+use Rattle.ts_command.specs.Boundary.{is_writing}
 use Rattle.ts_answer.specs.Decided.{IsDecision, FitsSlot}
 use Rattle.ts_answer.specs.View.{View, IsSeen}
 

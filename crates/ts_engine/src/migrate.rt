@@ -1,6 +1,6 @@
 // A volume of the old format is put into the newest one.
 ghost use Rattle.std.specs.Prelude.{◌≡◌, ◌+◌, ◌-◌, ◌≤◌, ℕ, None, Some, Ok, Err, length};
-ghost use Rattle.ts_page.specs.Volume.{first_element_page, most_element_pages, image_entry_size};
+ghost use Rattle.ts_page.specs.Pages.{first_element_page, most_element_pages, image_entry_size};
 ghost use Rattle.ts_store.specs.OpenBatch.{IsIdle, IsOver, contents_over};
 ghost use Rattle.ts_store.specs.Undisturbed.{Undisturbed};
 ghost use Rattle.ts_space.specs.Directory.{used_of};

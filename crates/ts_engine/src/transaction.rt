@@ -2,12 +2,11 @@
 ghost use Rattle.std.specs.Prelude.{◌≡◌, ◌≤◌, ◌++◌, None, Some, false, pos, IfOk, IfSome, IfErr, IsErrOf, OnOk, length};
 ghost use Rattle.std.specs.Option.{option_map};
 ghost use Rattle.ts_base.specs.declared.fault.StoreFault.TheVariants.{Failed as StoreFailed};
-ghost use Rattle.ts_journal.specs.Entry.{entries_bytes};
+ghost use Rattle.ts_journal.specs.Journal.{entries_bytes};
 ghost use Rattle.ts_store.specs.OpenBatch.{IsOver, to_commit, most_entries};
-ghost use Rattle.ts_command.specs.Boundary.{boundary_of};
-ghost use Rattle.ts_command.specs.Writing.{is_writing};
+ghost use Rattle.ts_command.specs.Boundary.{boundary_of, is_writing};
 ghost use Rattle.ts_answer.specs.Reply.{ok_line, number_line};
-ghost use Rattle.ts_answer.specs.State.{most_accepted};
+ghost use Rattle.ts_answer.specs.Answer.{most_accepted};
 ghost use Rattle.ts_effects.specs.Charged.{CanCount};
 ghost use Rattle.ts_engine.specs.Ended.{IsWant};
 ghost use Rattle.ts_engine.specs.Transaction.{misplaced_in, accepted_in, counted_in, Begins, CommitsAll, RollsBackTo};

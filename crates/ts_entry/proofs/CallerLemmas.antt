@@ -8,10 +8,8 @@ use Rattle.std.proofs.lemmas.List.Elements.{filter_map-append}
 use Rattle.ts_base.specs.Moment.{IsStamp, stamp_if_any}
 use Rattle.ts_space.proofs.PlaceLemmas.{int_lt_no}
 use Rattle.ts_row.specs.declared.kind.Column.{Column}
-use Rattle.ts_row.specs.Row.{Row}
-use Rattle.ts_row.specs.Element.{Element}
-use Rattle.ts_row.specs.RowType.{width_of}
-use Rattle.ts_cells.specs.Cell.{stamp_bytes}
+use Rattle.ts_row.specs.Row.{Row, Element, width_of}
+use Rattle.ts_cells.specs.IrregularPage.{stamp_bytes}
 use Rattle.ts_cells.proofs.CellLemmas.{units_back, length-stamp_bytes}
 use Rattle.ts_entry.specs.declared.stamps.Stamps.{Stamps}
 use Rattle.ts_entry.specs.Stamps.{HasStamp}

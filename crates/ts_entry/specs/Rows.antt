@@ -3,10 +3,8 @@
 use Rattle.std.specs.Prelude.{◌≡◌, ℕ, ◌+◌, IsTrue, IfSome, Option, Some, None, List, [], ◌∷◌, map, option_map}
 use Rattle.std.specs.Prelude.{filter_map, slice_get, take, drop}
 use Rattle.ts_row.specs.declared.kind.Column.{Column}
-use Rattle.ts_row.specs.RowType.{width_of}
-use Rattle.ts_row.specs.Row.{Row, fits}
+use Rattle.ts_row.specs.Row.{width_of, Row, fits, Element}
 use Rattle.ts_row.specs.Encoding.{row_bytes}
-use Rattle.ts_row.specs.Element.{Element}
 use Rattle.ts_entry.specs.declared.stamps.Stamps.{Stamps}
 use Rattle.ts_entry.specs.Stamps.{HasStamp}
 

@@ -1,8 +1,8 @@
 -- The stamps of elements in cells: each in its cell, or the on starts of a grid.
 use Rattle.std.specs.Prelude.{◌≡◌, ℕ, ◌+◌, ◌<◌, ◌^◌, ℤ, Some, List, take, drop}
 use Rattle.ts_base.specs.Moment.{IsStamp}
-use Rattle.ts_cells.specs.Cell.{stamp_bytes}
-use Rattle.ts_calendar.specs.Intervals.{IsLaid}
+use Rattle.ts_cells.specs.IrregularPage.{stamp_bytes}
+use Rattle.ts_calendar.specs.Calendars.{IsLaid}
 use Rattle.ts_offset.specs.Grid.{stamp_of}
 use Rattle.ts_entry.specs.declared.stamps.Stamps.{Stamps}
 use Rattle.ts_entry.specs.declared.stamps.Stamps.TheVariants.{InCells, OnGrid}

@@ -1,6 +1,6 @@
 // One that takes elements.
 ghost use Rattle.std.specs.Prelude.{◌≡◌, [], ◌∷◌, ◌++◌, OnOk, List};
-ghost use Rattle.ts_row.specs.Element.{Element};
+ghost use Rattle.ts_row.specs.Row.{Element};
 
 use std::alloc::AllocError;
 use ts_base::Stamp;

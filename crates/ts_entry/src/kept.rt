@@ -18,7 +18,7 @@ pub struct KeptElements {
 
 impl Model for KeptElements {
     ghost use Rattle.std.specs.Prelude.{List};
-    ghost use Rattle.ts_row.specs.Element.{Element};
+    ghost use Rattle.ts_row.specs.Row.{Element};
     ghost use Rattle.ts_entry.specs.Entry.{elements_in};
 
     ghost Value = { List Element };

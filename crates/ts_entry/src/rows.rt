@@ -1,8 +1,7 @@
 // One that takes rows.
 ghost use Rattle.std.specs.Prelude.{◌≡◌, ℕ, ◌+◌, ◌*◌, ◌<◌, ◌≤◌, [], ◌++◌, OnOk, List, Option, length};
 ghost use Rattle.ts_row.specs.declared.kind.Column.{Column};
-ghost use Rattle.ts_row.specs.Element.{Element};
-ghost use Rattle.ts_row.specs.RowType.{width_of};
+ghost use Rattle.ts_row.specs.Row.{Element, width_of};
 ghost use Rattle.ts_entry.specs.Rows.{AreCellsOf, elements_in};
 ghost use Rattle.ts_entry.specs.Stamps.{IsNear};
 

@@ -1,7 +1,7 @@
 // Where the stamps of cells come from.
 ghost use Rattle.std.specs.Prelude.{◌≡◌, ℤ, ◌<◌, ◌≤◌, ◌^◌, Some, length, take, drop};
 ghost use Rattle.ts_base.specs.Moment.{IsStamp};
-ghost use Rattle.ts_cells.specs.Cell.{stamp_bytes};
+ghost use Rattle.ts_cells.specs.IrregularPage.{stamp_bytes};
 ghost use Rattle.ts_entry.specs.Stamps.{HasStamp, IsNear};
 
 use ts_base::Stamp;

@@ -1,8 +1,7 @@
 // One that takes entries.
 ghost use Rattle.std.specs.Prelude.{◌≡◌, [], ◌∷◌, ◌++◌, None, OnOk, Some, List, length};
 ghost use Rattle.ts_row.specs.declared.kind.Column.{Column};
-ghost use Rattle.ts_row.specs.Row.{Row as TheRow};
-ghost use Rattle.ts_row.specs.RowType.{width_of};
+ghost use Rattle.ts_row.specs.Row.{Row as TheRow, width_of};
 ghost use Rattle.ts_entry.specs.Entry.{Entry, AreSeenBytes};
 
 use std::alloc::AllocError;

@@ -9,8 +9,7 @@ use Rattle.ts_row.specs.declared.kind.Column.{Column}
 use Rattle.ts_row.specs.declared.value.Value.{Value}
 use Rattle.ts_row.specs.declared.value.Value.TheVariants.{Null, Number, Text}
 use Rattle.ts_row.specs.Row.{Values, Row, holds, hold, fits}
-use Rattle.ts_expr.specs.Binding.{is_text_kind}
-use Rattle.ts_expr.specs.Fold.{is_null, value_at, values_of}
+use Rattle.ts_expr.specs.Aggregates.{is_text_kind, is_null, value_at, values_of}
 use Rattle.ts_expr.specs.Laws.{is_number, is_text, AreAlike}
 
 -- what holds of the value of each row holds of the values

@@ -4,7 +4,7 @@ use Rattle.ts_base.specs.declared.refusal.Refusal.{Refusal}
 use Rattle.ts_row.specs.declared.kind.Column.{Column}
 use Rattle.ts_expr.specs.declared.item.Item.{Item}
 use Rattle.ts_expr.specs.declared.item.BoundItem.{BoundItem}
-use Rattle.ts_expr.specs.Binding.{Binding, bound, with_item, bound_items, with_columns, binding}
+use Rattle.ts_expr.specs.Aggregates.{Binding, bound, with_item, bound_items, with_columns, binding}
 use Rattle.ts_expr.specs.Laws.{AreBoundAs}
 
 -- items before others, if these are bound

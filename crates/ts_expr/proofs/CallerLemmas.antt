@@ -9,7 +9,7 @@ use Rattle.ts_expr.specs.declared.function.Function.{Function}
 use Rattle.ts_expr.specs.declared.function.Function.TheVariants.{Sum, Avg, Count, Min, Max, First, Last}
 use Rattle.ts_expr.specs.declared.tally.Tally.{Tally}
 use Rattle.ts_expr.specs.declared.tally.Tally.TheVariants as tally
-use Rattle.ts_expr.specs.Fold.{is_null, value_at, values_of, number_of, total}
+use Rattle.ts_expr.specs.Aggregates.{is_null, value_at, values_of, number_of, total}
 use Rattle.ts_expr.specs.Sums.{Sums}
 use Rattle.ts_expr.specs.Running.{sums, count_of, tally_of, is_summed, with_sums, with_value}
 use Rattle.ts_expr.proofs.FoldLemmas.{tally_more, values-le, count-le}

@@ -6,11 +6,8 @@ use Rattle.std.proofs.lemmas.List.{length-take}
 use Rattle.std.proofs.lemmas.Slice.Eq.{bytes_eq-Decides}
 use Rattle.std.specs.Str.{bytes_eq}
 use Rattle.ts_base.specs.Name.{is_blank}
-use Rattle.ts_text.specs.Blanks.{unblanked, are_blanks}
-use Rattle.ts_text.specs.Front.{Front}
-use Rattle.ts_text.specs.Phrase.{Read, Phrase, go_on, ◌>>=◌, give, a_sign, phrases, the_end, ended, outcome}
+use Rattle.ts_text.specs.Phrase.{unblanked, are_blanks, Front, Read, Phrase, go_on, ◌>>=◌, give, a_sign, phrases, the_end, ended, outcome, plain_front}
 use Rattle.ts_text.specs.Place.{everywhere, RefusesInPlace}
-use Rattle.ts_text.specs.Plain.{plain_front}
 use Rattle.ts_text.specs.declared.token.TokenKind.{TokenKind}
 use Rattle.ts_text.proofs.CallerLemmas.{Alike, Any, Carries, Follows, Goes, Stops, Yields, YieldsIn, begins, blanked, blanks_before, bytes_taking, in_bytes, plain_laws, plain_sign, sign_left, sign_yields, split_same, stops-le, stops_here, unblanked_past}
 

@@ -11,15 +11,14 @@ use Rattle.ts_row.specs.declared.kind.ColumnKind.TheVariants.{SmallInt, Integer,
 use Rattle.ts_row.specs.declared.kind.Column.{Column}
 use Rattle.ts_row.specs.declared.value.Value.{Value}
 use Rattle.ts_row.specs.declared.value.Value.TheVariants.{Null, Number, Text}
-use Rattle.ts_row.specs.RowType.{is_kind}
-use Rattle.ts_row.specs.Row.{Values, Row, holds, hold}
+use Rattle.ts_row.specs.Row.{is_kind, Values, Row, holds, hold}
 use Rattle.ts_expr.specs.declared.function.Function.{Function}
 use Rattle.ts_expr.specs.declared.function.Function.TheVariants.{Sum, Avg, Count, Min, Max, First, Last}
 use Rattle.ts_expr.specs.declared.item.BoundItem.{BoundItem}
 use Rattle.ts_expr.specs.declared.tally.Tally.{Tally}
 use Rattle.ts_expr.specs.declared.tally.Tally.TheVariants as tally
 use Rattle.ts_expr.specs.Sums.{Sums}
-use Rattle.ts_expr.specs.Fold.{is_null, value_at, values_of, number_of, total, mean, lesser, greater, earlier, later, made, folded}
+use Rattle.ts_expr.specs.Aggregates.{is_null, value_at, values_of, number_of, total, mean, lesser, greater, earlier, later, made, folded}
 use Rattle.ts_expr.specs.Running.{sums, tally_of, after, count_of, with_value, taken_into, all_taken, IsSmall, sum_if_any, value_of}
 
 -- a fold over one more

@@ -1,14 +1,13 @@
 -- What the grammar of aggregate lists takes.
 use Rattle.std.proofs.Common.{◌≡◌, ℕ, suc, ◌+◌, List, [], ◌∷◌, ◌++◌, Ok, Err, refl, sym, ◌∙◌, ap, arith, codes}
 use Rattle.ts_text.specs.Misfit.{Refuses}
-use Rattle.ts_text.specs.Phrase.{Read, behind, a_sign, phrases, onto, name_as}
+use Rattle.ts_text.specs.Phrase.{Read, behind, a_sign, phrases, onto, name_as, plain_front}
 use Rattle.ts_text.specs.declared.misfit.Misfit.{Misfit}
-use Rattle.ts_text.specs.Plain.{plain_front}
 use Rattle.ts_text.specs.declared.token.TokenKind.TheVariants.{Word}
 use Rattle.ts_text.proofs.CallerLemmas.{Yields, chain, given, Any, of_token, behind_yields, brackets_yield, plain_laws, plain_sign}
 use Rattle.ts_expr.specs.declared.function.Function.TheVariants.{Sum}
 use Rattle.ts_expr.specs.declared.item.Item.{Item}
-use Rattle.ts_expr.specs.Grammar.{function_as, function_in, name_in, column_in, item_in, further}
+use Rattle.ts_expr.specs.Aggregates.{function_as, function_in, name_in, column_in, item_in, further}
 use Rattle.ts_expr.proofs.ListLemmas.{few_more, few_end, few_full, few_refused}
 
 function_yields : Yields plain_front Any function_in

@@ -13,7 +13,7 @@ use Rattle.ts_row.specs.declared.value.Value.{Value}
 use Rattle.ts_row.specs.declared.value.Value.TheVariants.{Null, Number, Text}
 use Rattle.ts_expr.specs.declared.function.Function.{Function}
 use Rattle.ts_expr.specs.declared.function.Function.TheVariants.{Sum, Avg, Count, Min, Max, First, Last}
-use Rattle.ts_expr.specs.Fold.{is_null, value_cmp, lesser, greater, earlier, later, made}
+use Rattle.ts_expr.specs.Aggregates.{is_null, value_cmp, lesser, greater, earlier, later, made}
 use Rattle.ts_expr.specs.Laws.{is_number, is_text, AreAlike, IsLeast, IsGreatest}
 
 -- `before a b` orders the values of one kind, and `pick kept v` is v where it is before the one kept

@@ -7,7 +7,7 @@ use Rattle.std.proofs.lemmas.Bool.Decides.{nat_tests}
 use Rattle.std.proofs.lemmas.Int.{ints}
 use Rattle.std.proofs.lemmas.Nat.{div-add-mod'}
 use Rattle.ts_row.specs.Row.{with_sign}
-use Rattle.ts_expr.specs.Fold.{rounded}
+use Rattle.ts_expr.specs.Aggregates.{rounded}
 use Rattle.ts_expr.specs.Laws.{distance, IsNearestMean}
 
 -- a size rounded from another: 2 * size + n = 2 * p + rest

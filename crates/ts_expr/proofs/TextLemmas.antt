@@ -6,15 +6,14 @@ use Rattle.std.specs.List.{list_all}
 use Rattle.std.specs.Str.{bytes_eq}
 use Rattle.ts_base.specs.Name.{is_word, is_name, name_if_any}
 use Rattle.ts_text.specs.Parted.{IsParted}
-use Rattle.ts_text.specs.Phrase.{Read, go_on, ◌>>=◌, give, a_sign, behind, phrases, the_end, ended, outcome, name_as}
-use Rattle.ts_text.specs.Plain.{plain_front}
+use Rattle.ts_text.specs.Phrase.{Read, go_on, ◌>>=◌, give, a_sign, behind, phrases, the_end, ended, outcome, name_as, plain_front}
 use Rattle.ts_text.specs.declared.token.TokenKind.{TokenKind}
 use Rattle.ts_text.specs.declared.token.TokenKind.TheVariants.{Word, Number, Text, Sign}
 use Rattle.ts_text.proofs.CallerLemmas.{plain_laws, word_stands, bind-ok, pair-parts, parted-token, token-found, token-read, sign-found, sign-read, stops-word, end-found, end-read}
 use Rattle.ts_expr.specs.declared.function.Function.{Function}
 use Rattle.ts_expr.specs.declared.function.Function.TheVariants.{Sum, Avg, Count, Min, Max, First, Last}
 use Rattle.ts_expr.specs.declared.item.Item.{Item}
-use Rattle.ts_expr.specs.Grammar.{function_word, names, function_among, function_of_word, function_as, function_in, name_in, column_in, item, item_in, further, list_in, written_list}
+use Rattle.ts_expr.specs.Aggregates.{function_word, names, function_among, function_of_word, function_as, function_in, name_in, column_in, item, item_in, further, list_in, written_list}
 use Rattle.ts_expr.specs.Spelling.{Written, item_before, items_before, item_of, IsListText}
 use Rattle.ts_expr.proofs.EndLemmas.{end_is, end_no_comma}
 

@@ -7,8 +7,7 @@ use Rattle.ts_row.specs.declared.value.Value.{Value}
 use Rattle.ts_row.specs.declared.value.Value.TheVariants.{Null, Number, Text}
 use Rattle.ts_expr.specs.declared.item.Item.{Item}
 use Rattle.ts_expr.specs.declared.item.BoundItem.{BoundItem}
-use Rattle.ts_expr.specs.Fold.{value_cmp}
-use Rattle.ts_expr.specs.Binding.{bound}
+use Rattle.ts_expr.specs.Aggregates.{value_cmp, bound}
 
 -- the distance of a whole number from a million times the sum divided by the count, times the count
 abbrev pub distance : ℤ → ℕ → ℤ → ℕ

@@ -1,7 +1,5 @@
-pub mod Grammar
+pub mod Aggregates
 pub mod Spelling
-pub mod Binding
-pub mod Fold
 pub mod Sums
 pub mod Running
 pub mod Laws

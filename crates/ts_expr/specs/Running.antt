@@ -10,7 +10,8 @@ use Rattle.ts_expr.specs.declared.item.BoundItem.{BoundItem}
 use Rattle.ts_expr.specs.declared.tally.Tally.{Tally}
 use Rattle.ts_expr.specs.declared.tally.Tally.TheVariants as tally
 use Rattle.ts_expr.specs.Sums.{Sums}
-use Rattle.ts_expr.specs.Fold.{is_null, value_at, values_of, number_of, total, rounded, lesser, greater, earlier, later}
+use Rattle.ts_expr.specs.Aggregates.{is_null, value_at, values_of, number_of, total, rounded, lesser, greater, earlier}
+use Rattle.ts_expr.specs.Aggregates.{later}
 
 -- so many values with this sum
 abbrev pub sums : ℕ → ℤ → Sums

@@ -5,7 +5,7 @@ use Rattle.ts_base.specs.Name.{is_name}
 use Rattle.ts_text.specs.Parted.{IsParted}
 use Rattle.ts_expr.specs.declared.function.Function.{Function}
 use Rattle.ts_expr.specs.declared.item.Item.{Item}
-use Rattle.ts_expr.specs.Grammar.{most_items, function_word, item}
+use Rattle.ts_expr.specs.Aggregates.{most_items, function_word, item}
 
 -- an item as a text has it: the case of its function, the function, and the column
 pub record Written : Type 0 where

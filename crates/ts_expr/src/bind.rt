@@ -1,10 +1,10 @@
 // An aggregate list with the columns that it takes its values from.
 ghost use Rattle.std.specs.Prelude.{◌≡◌, ◌<◌, ◌≤◌, Ok, IfOk, IfErr, IfSome, IsTrue, All, length, map};
 ghost use Rattle.std.specs.List.{list_all};
-ghost use Rattle.ts_row.specs.RowType.{is_kind};
+ghost use Rattle.ts_row.specs.Row.{is_kind};
 ghost use Rattle.ts_base.specs.Answer.{Answers, Fails};
-ghost use Rattle.ts_expr.specs.Binding.{most_scale, binding, IsBinding};
-ghost use Rattle.ts_expr.specs.Binding;
+ghost use Rattle.ts_expr.specs.Aggregates.{most_scale, binding, IsBinding};
+ghost use Rattle.ts_expr.specs.Aggregates;
 
 use crate::{AggList, BoundItem, Function, Item};
 use std::alloc::{AllocError, Global};
@@ -22,7 +22,7 @@ pub struct Bound {
 
 impl Model for Bound {
     ghost use Rattle.std.specs.Prelude.{◌≡◌, map};
-    ghost use Rattle.ts_expr.specs.Binding.{Binding, IsBinding};
+    ghost use Rattle.ts_expr.specs.Aggregates.{Binding, IsBinding};
 
     ghost Value = { Binding };
 
@@ -84,8 +84,8 @@ impl Bound {
 // The items of a list with their columns, from left to right.
 fn bound_items(alloc: Global, columns: &[Column], items: &[Item]) -> Result<Vec<BoundItem>, Trouble>
     requires { IsTrue (list_all (λ c. is_kind c.kind) columns.now) }
-    ensures ok { IfOk result (λ bound. Binding.bound_items columns.now items.now ≡ Ok bound.items) }
-    ensures cause { IfErr result (λ trouble. Fails (Binding.bound_items columns.now items.now) trouble) }
+    ensures ok { IfOk result (λ bound. Aggregates.bound_items columns.now items.now ≡ Ok bound.items) }
+    ensures cause { IfErr result (λ trouble. Fails (Aggregates.bound_items columns.now items.now) trouble) }
     ensures places { IfOk result (λ bound. All (λ i. i.column < length columns.now) bound.items) }
     ensures scales { IfOk result (λ bound. All (λ i. i.scale ≤ most_scale) bound.items) }
 {
@@ -100,7 +100,7 @@ fn bound_items(alloc: Global, columns: &[Column], items: &[Item]) -> Result<Vec<
 // An item of the column that has its name.
 fn bound_item(columns: &[Column], item: &Item) -> Result<BoundItem, Trouble>
     requires { IsTrue (list_all (λ c. is_kind c.kind) columns.now) }
-    ensures value { Answers (Binding.bound columns.now item.now) result }
+    ensures value { Answers (Aggregates.bound columns.now item.now) result }
     ensures within { IfOk result (λ bound. bound.column < length columns.now) }
     ensures scale { IfOk result (λ bound. bound.scale ≤ most_scale) }
 {
@@ -120,7 +120,7 @@ fn bound_item(columns: &[Column], item: &Item) -> Result<BoundItem, Trouble>
 // The number and the type of the column that has this name.
 fn column_named(columns: &[Column], name: &[u8]) -> Option<(usize, ColumnKind)>
     requires { IsTrue (list_all (λ c. is_kind c.kind) columns.now) }
-    ensures value { result ≡ Binding.column_from 0 name.now columns.now }
+    ensures value { result ≡ Aggregates.column_from 0 name.now columns.now }
     ensures within { IfSome result (λ c. c.0 < length columns.now) }
     ensures kind { IfSome result (λ c. IsTrue (is_kind c.1)) }
 {
@@ -134,7 +134,7 @@ fn column_named(columns: &[Column], name: &[u8]) -> Option<(usize, ColumnKind)>
 
 // Whether a function takes the values of a column.
 fn takes_kind(function: Function, kind: ColumnKind) -> bool
-    ensures { result ≡ Binding.takes_kind function kind }
+    ensures { result ≡ Aggregates.takes_kind function kind }
 {
     match (function, kind) {
         (Function::Sum | Function::Avg, ColumnKind::VarChar { .. }) => false,
@@ -145,7 +145,7 @@ fn takes_kind(function: Function, kind: ColumnKind) -> bool
 // The digits after the point of what a function makes of a column's values.
 fn made_scale(function: Function, kind: ColumnKind) -> u8
     requires { IsTrue (is_kind kind) }
-    ensures value { result ≡ Binding.made_scale function kind }
+    ensures value { result ≡ Aggregates.made_scale function kind }
     ensures most { result ≤ most_scale }
 {
     match function {

@@ -2,7 +2,7 @@
 ghost use Rattle.std.specs.Prelude.{◌≡◌, ◌-◌, ◌≤◌, ◌<◌, ◌^◌, List, [], ◌∷◌, ◌++◌, IfOk, OnOk, IsTrue, All, length, map};
 ghost use Rattle.ts_row.specs.Row.{Row, visible, fits};
 ghost use Rattle.ts_expr.specs.declared.item.BoundItem.{BoundItem};
-ghost use Rattle.ts_expr.specs.Fold.{folded, rows_of};
+ghost use Rattle.ts_expr.specs.Aggregates.{folded, rows_of};
 ghost use Rattle.ts_expr.specs.Sums.{most_values};
 ghost use Rattle.ts_expr.specs.Running.{after, IsAfter, count_of, all_taken, value_of, IsSmall};
 

@@ -1,6 +1,6 @@
 // What is made of the values of a column.
 ghost use Rattle.std.specs.Prelude.{◌≡◌};
-ghost use Rattle.ts_expr.specs.Grammar;
+ghost use Rattle.ts_expr.specs.Aggregates;
 
 /// What is made of the values of a column, hidden rows and NULLs left out.
 #[derive(Clone, Copy, Debug, PartialEq, Eq)]
@@ -24,7 +24,7 @@ pub enum Function {
 impl Function {
     // The function that a word names, in lower or in upper case.
     pub(crate) fn of_word(word: &[u8]) -> Option<Function>
-        ensures { result ≡ Grammar.function_of_word word.now }
+        ensures { result ≡ Aggregates.function_of_word word.now }
     {
         if word == b"sum".as_slice() || word == b"SUM".as_slice() {
             return Some(Function::Sum);

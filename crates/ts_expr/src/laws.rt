@@ -9,8 +9,7 @@ ghost use Rattle.ts_expr.specs.declared.function.Function.{Function as TheFuncti
 ghost use Rattle.ts_expr.specs.declared.function.Function.TheVariants.{Avg, Count, Min, Max, First, Last};
 ghost use Rattle.ts_expr.specs.declared.item.Item.{Item as TheItem};
 ghost use Rattle.ts_expr.specs.declared.item.BoundItem.{BoundItem as TheBoundItem};
-ghost use Rattle.ts_expr.specs.Fold.{is_null, values_of, total, mean, made};
-ghost use Rattle.ts_expr.specs.Binding.{Binding, bound, binding};
+ghost use Rattle.ts_expr.specs.Aggregates.{is_null, values_of, total, mean, made, Binding, bound, binding};
 ghost use Rattle.ts_expr.specs.Laws.{IsNearestMean, AreAlike, IsLeast, IsGreatest, AreBoundAs};
 
 /// The mean of values is the whole number nearest to a million times their sum divided by their number, a half rounded

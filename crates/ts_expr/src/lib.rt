@@ -1,11 +1,11 @@
 //! Aggregate lists, as in `sum($v), count($v)`: their texts, their columns and their fold over the elements of a
-//! series. What a text reads as, or the place at which it is refused, is `specs/Grammar`; a text is read as a list
+//! series. What a text reads as, or the place at which it is refused, is `specs/Aggregates`; a text is read as a list
 //! exactly where it is that list's tokens with blanks between them (`specs/Spelling`). Bound to a row type each item
-//! has its column (`specs/Binding`), and what the items make of rows is `specs/Fold`: plain folds over the values of a
-//! column. That a mean is the nearest number, that the least value is one of the values, and that the first item that
-//! can't be bound decides, are laws (`laws.rt`). The code goes over the rows once, with a running value for each item.
-//! Stands on ts_text, ts_row and ts_base; knows nothing of pages, calendars or scripts. Read `specs/Grammar.antt` and
-//! `specs/Fold.antt`, then `list.rt`, `bind.rt`, `fold.rt` and `laws.rt`.
+//! has its column, and what the items make of rows stands there too: plain folds over the values of a column. That a
+//! mean is the nearest number, that the least value is one of the values, and that the first item that can't be bound
+//! decides, are laws (`laws.rt`). The code goes over the rows once, with a running value for each item. Stands on
+//! ts_text, ts_row and ts_base; knows nothing of pages, calendars or scripts. Read `specs/Aggregates.antt`, then
+//! `list.rt`, `bind.rt`, `fold.rt` and `laws.rt`.
 #![tactic(auto)]
 
 mod bind;

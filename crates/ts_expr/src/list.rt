@@ -1,10 +1,10 @@
 // Aggregate lists as texts: `sum($v), count($v)`.
 ghost use Rattle.std.specs.Prelude.{◌≡◌, ◌≤◌, ◌<◌, ◌^◌, ◌↔◌, ℕ, List, Ok, length};
 ghost use Rattle.ts_text.specs.Place.{everywhere, RefusesInPlace};
-ghost use Rattle.ts_text.specs.Plain.{plain_front};
+ghost use Rattle.ts_text.specs.Phrase.{plain_front};
 ghost use Rattle.ts_expr.specs.declared.item.Item.{Item};
 ghost use Rattle.ts_base.specs.Answer.{Answers};
-ghost use Rattle.ts_expr.specs.Grammar.{most_items, read_list, written_list};
+ghost use Rattle.ts_expr.specs.Aggregates.{most_items, read_list, written_list};
 ghost use Rattle.ts_expr.specs.Spelling.{IsListText};
 
 use crate::Item;
@@ -26,7 +26,7 @@ pub struct AggList {
 impl Model for AggList {
     ghost use Rattle.std.specs.Prelude.{◌≤◌, List, length};
     ghost use Rattle.ts_expr.specs.declared.item.Item.{Item};
-    ghost use Rattle.ts_expr.specs.Grammar.{most_items};
+    ghost use Rattle.ts_expr.specs.Aggregates.{most_items};
 
     ghost Value = { List Item };
 

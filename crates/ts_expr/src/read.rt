@@ -2,7 +2,7 @@
 ghost use Rattle.std.specs.Prelude.{◌≡◌, ◌-◌, ◌≤◌, Ok, IfOk, IfErr, OnOk, [], length};
 ghost use Rattle.ts_text.specs.Misfit.{Refuses, RefusesExactly};
 ghost use Rattle.ts_text.specs.Phrase.{ended, onto};
-ghost use Rattle.ts_expr.specs.Grammar;
+ghost use Rattle.ts_expr.specs.Aggregates;
 
 use crate::list::MOST_ITEMS;
 use crate::{Function, Item};
@@ -11,10 +11,10 @@ use ts_base::Name;
 use ts_text::{Misfit, TokenKind, behind_sign, plain_front, read_end, read_sign, skip_blanks};
 
 // The word of a function.
-#[tactic(auto, unfolding(crate::specs::Grammar::function_in))]
+#[tactic(auto, unfolding(crate::specs::Aggregates::function_in))]
 fn function_in(text: &[u8]) -> Result<(Function, &[u8]), Misfit>
-    ensures ok { IfOk result (λ x. Grammar.function_in text.now ≡ Ok (x.0, x.1.now)) }
-    ensures cause { IfErr result (λ misfit. RefusesExactly misfit (Grammar.function_in text.now)) }
+    ensures ok { IfOk result (λ x. Aggregates.function_in text.now ≡ Ok (x.0, x.1.now)) }
+    ensures cause { IfErr result (λ misfit. RefusesExactly misfit (Aggregates.function_in text.now)) }
 {
     let here = skip_blanks(text);
     if let Some((TokenKind::Word, length)) = plain_front(here) {
@@ -27,10 +27,10 @@ fn function_in(text: &[u8]) -> Result<(Function, &[u8]), Misfit>
 }
 
 // A word of 1 to 32 bytes.
-#[tactic(auto, unfolding(crate::specs::Grammar::name_in))]
+#[tactic(auto, unfolding(crate::specs::Aggregates::name_in))]
 fn name_in(alloc: Global, text: &[u8]) -> Result<(Name, &[u8]), Misfit>
-    ensures ok { IfOk result (λ x. Grammar.name_in text.now ≡ Ok (x.0, x.1.now)) }
-    ensures cause { IfErr result (λ misfit. Refuses misfit (Grammar.name_in text.now)) }
+    ensures ok { IfOk result (λ x. Aggregates.name_in text.now ≡ Ok (x.0, x.1.now)) }
+    ensures cause { IfErr result (λ misfit. Refuses misfit (Aggregates.name_in text.now)) }
 {
     let here = skip_blanks(text);
     if let Some((TokenKind::Word, length)) = plain_front(here) {
@@ -43,10 +43,10 @@ fn name_in(alloc: Global, text: &[u8]) -> Result<(Name, &[u8]), Misfit>
 }
 
 // The name of a column behind a `$`, in brackets.
-#[tactic(auto, unfolding(crate::specs::Grammar::column_in))]
+#[tactic(auto, unfolding(crate::specs::Aggregates::column_in))]
 fn column_in(alloc: Global, text: &[u8]) -> Result<(Name, &[u8]), Misfit>
-    ensures ok { IfOk result (λ x. Grammar.column_in text.now ≡ Ok (x.0, x.1.now)) }
-    ensures cause { IfErr result (λ misfit. Refuses misfit (Grammar.column_in text.now)) }
+    ensures ok { IfOk result (λ x. Aggregates.column_in text.now ≡ Ok (x.0, x.1.now)) }
+    ensures cause { IfErr result (λ misfit. Refuses misfit (Aggregates.column_in text.now)) }
 {
     let rest = read_sign(read_sign(text, b'(')?, b'$')?;
     let (column, rest) = name_in(alloc, rest)?;
@@ -54,10 +54,10 @@ fn column_in(alloc: Global, text: &[u8]) -> Result<(Name, &[u8]), Misfit>
 }
 
 // A function and its column.
-#[tactic(auto, unfolding(crate::specs::Grammar::item_in))]
+#[tactic(auto, unfolding(crate::specs::Aggregates::item_in))]
 fn item_in(alloc: Global, text: &[u8]) -> Result<(Item, &[u8]), Misfit>
-    ensures ok { IfOk result (λ x. Grammar.item_in text.now ≡ Ok (x.0, x.1.now)) }
-    ensures cause { IfErr result (λ misfit. Refuses misfit (Grammar.item_in text.now)) }
+    ensures ok { IfOk result (λ x. Aggregates.item_in text.now ≡ Ok (x.0, x.1.now)) }
+    ensures cause { IfErr result (λ misfit. Refuses misfit (Aggregates.item_in text.now)) }
 {
     let (function, rest) = function_in(text)?;
     let (column, rest) = column_in(alloc, rest)?;
@@ -67,11 +67,11 @@ fn item_in(alloc: Global, text: &[u8]) -> Result<(Item, &[u8]), Misfit>
 // Further items, as many as commas stand there, up to the most that a list has.
 fn read_items<'a>(alloc: Global, items: &mut Vec<Item>, text: &'a [u8]) -> Result<&'a [u8], Misfit>
     requires { length items.old.items ≡ 1 }
-    ensures ok { IfOk result (λ rest. onto items.old.items (Grammar.further (Grammar.most_items - 1) text.now)
+    ensures ok { IfOk result (λ rest. onto items.old.items (Aggregates.further (Aggregates.most_items - 1) text.now)
         ≡ Ok (items.new.items, rest.now)) }
-    ensures cause { IfErr result (λ misfit. Refuses misfit (Grammar.further (Grammar.most_items - 1) text.now)) }
+    ensures cause { IfErr result (λ misfit. Refuses misfit (Aggregates.further (Aggregates.most_items - 1) text.now)) }
     ensures some { OnOk result (1 ≤ length items.new.items) }
-    ensures few { OnOk result (length items.new.items ≤ Grammar.most_items) }
+    ensures few { OnOk result (length items.new.items ≤ Aggregates.most_items) }
 {
     let mut rest = text;
     for _ in 1..MOST_ITEMS {
@@ -86,12 +86,12 @@ fn read_items<'a>(alloc: Global, items: &mut Vec<Item>, text: &'a [u8]) -> Resul
 }
 
 /// The items that a text writes.
-#[tactic(auto, unfolding(crate::specs::Grammar::list_in))]
+#[tactic(auto, unfolding(crate::specs::Aggregates::list_in))]
 pub(crate) fn written_items(alloc: Global, text: &[u8]) -> Result<Vec<Item>, Misfit>
-    ensures ok { IfOk result (λ items. ended [] Grammar.list_in text.now ≡ Ok (items.items, [])) }
-    ensures cause { IfErr result (λ misfit. Refuses misfit (ended [] Grammar.list_in text.now)) }
+    ensures ok { IfOk result (λ items. ended [] Aggregates.list_in text.now ≡ Ok (items.items, [])) }
+    ensures cause { IfErr result (λ misfit. Refuses misfit (ended [] Aggregates.list_in text.now)) }
     ensures some { IfOk result (λ items. 1 ≤ length items.items) }
-    ensures few { IfOk result (λ items. length items.items ≤ Grammar.most_items) }
+    ensures few { IfOk result (λ items. length items.items ≤ Aggregates.most_items) }
 {
     let (first, rest) = item_in(alloc, text)?;
     let mut items = Vec::new(alloc);

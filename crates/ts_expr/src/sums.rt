@@ -1,7 +1,7 @@
 // A sum of values of at most 28 digits, and their mean.
 ghost use Rattle.std.specs.Prelude.{◌≡◌, ◌+◌, ◌*◌, ◌/◌, ◌^◌, ◌<◌, ◌≤◌, pos, ◌+ℤ◌, ◌*ℤ◌, unsigned_abs};
 ghost use Rattle.ts_expr.specs.Sums.{most_values};
-ghost use Rattle.ts_expr.specs.Fold.{rounded};
+ghost use Rattle.ts_expr.specs.Aggregates.{rounded};
 
 use std::marker::Model;
 

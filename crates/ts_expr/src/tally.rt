@@ -2,7 +2,7 @@
 ghost use Rattle.std.specs.Prelude.{◌≡◌, ◌<◌, ◌≤◌, ◌+◌, ◌*◌, ◌^◌, List, [], ◌++◌, OnOk, IsTrue, length, unsigned_abs};
 ghost use Rattle.ts_row.specs.declared.value.Value.{Value};
 ghost use Rattle.ts_expr.specs.declared.function.Function.{Function};
-ghost use Rattle.ts_expr.specs.Fold.{is_null, number_of, total, value_cmp, lesser, greater, earlier};
+ghost use Rattle.ts_expr.specs.Aggregates.{is_null, number_of, total, value_cmp, lesser, greater, earlier};
 ghost use Rattle.ts_expr.specs.Sums.{most_values};
 ghost use Rattle.ts_expr.specs.Running.{tally_of, count_of, taken_into, with_value, is_summed, with_sums, IsSmall};
 ghost use Rattle.ts_expr.specs.Running.{value_of, sum_if_any};

@@ -1,6 +1,6 @@
 -- What standard input shows: its counts, and whether it ended.
 use Rattle.std.specs.Prelude.{[]}
-use Rattle.ts_disk.specs.Input.{Input}
+use Rattle.ts_disk.specs.Device.{Input}
 use Rattle.ts_file.specs.declared.std_source.StdSource.{StdSource}
 
 -- no byte is told

@@ -1,6 +1,6 @@
 // Standard input.
 ghost use Rattle.std.specs.Prelude.{◌≡◌, ◌<◌, length, false, IsErr};
-ghost use Rattle.ts_disk.specs.Input.{Pulled};
+ghost use Rattle.ts_disk.specs.Device.{Pulled};
 
 use crate::wait::read_some;
 use ts_disk::{PullFailed, Source, either, raise};

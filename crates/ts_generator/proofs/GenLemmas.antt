@@ -6,7 +6,7 @@ use Rattle.ts_disk.proofs.Moments.{first_map}
 use Rattle.ts_command.specs.declared.command.Command.{Command}
 use Rattle.ts_model.specs.Catalogue.{Catalogue}
 use Rattle.ts_container.specs.declared.fault.SurveyFault.{SurveyFault}
-use Rattle.ts_answer.specs.State.{resting, replies}
+use Rattle.ts_answer.specs.Answer.{resting, replies}
 use Rattle.ts_opening.specs.Engine.{Engine}
 use Rattle.ts_volume.specs.Volume.{MeansCatalogue}
 use Rattle.ts_opening.specs.Engine.{Started, StillMeans}

@@ -2,8 +2,7 @@
 use Rattle.std.proofs.Common.{◌≡◌, ⊎_elim, ℕ, zero, suc, ◌+◌, ◌*◌, ◌%◌, ◌<◌, List, [], ◌∷◌, ◌++◌, length, take, refl, sym, ◌∙◌, ap, subst, arith, append_assoc, length-append, codes}
 use Rattle.std.proofs.lemmas.List.{take-append-le}
 use Rattle.std.proofs.Math.Seq.{take-append-add}
-use Rattle.ts_base.specs.Moment.{civil_of, civil_in_years, civil_in_year}
-use Rattle.ts_base.specs.StampText.{stamp_text}
+use Rattle.ts_base.specs.Moment.{civil_of, civil_in_years, civil_in_year, stamp_text}
 use Rattle.ts_command.specs.declared.command.Command.{Command}
 use Rattle.ts_multi.specs.Picks.{drawn}
 use Rattle.ts_generator.specs.Generated.{beginning, ending, opening, edit, edits, closing, generated, IsNext}

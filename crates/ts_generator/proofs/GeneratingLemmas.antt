@@ -8,7 +8,7 @@ use Rattle.std.proofs.Math.Seq.{drop-append_seam}
 use Rattle.ts_disk.specs.Device.{Device, Lawful, LeavesOnly, Says, Rose}
 use Rattle.ts_disk.proofs.Moments.{started, goes_on, then_on, leaves_map}
 use Rattle.ts_command.specs.declared.command.Command.{Command}
-use Rattle.ts_answer.specs.State.{State, committed, run_answer, after, replies}
+use Rattle.ts_answer.specs.Answer.{State, committed, run_answer, after, replies}
 use Rattle.ts_answer.specs.Outcomes.{ends_with_ok}
 use Rattle.ts_answer.proofs.CallerLemmas.{after_more, replies_more}
 use Rattle.ts_opening.specs.Engine.{StepFault}

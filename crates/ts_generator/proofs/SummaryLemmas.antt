@@ -2,7 +2,7 @@
 use Rattle.std.proofs.Common.{◌≡◌, inl, inr, ℕ, ◌≤◌, Bool, IsTrue, List, ◌++◌, length, codes, Ok, Err, refl, arith}
 use Rattle.std.specs.Fmt.{decimal}
 use Rattle.ts_disk.specs.Device.{Device, Says}
-use Rattle.ts_answer.specs.State.{State, replies}
+use Rattle.ts_answer.specs.Answer.{State, replies}
 use Rattle.ts_answer.proofs.CallerLemmas.{length-replies}
 use Rattle.ts_opening.specs.Faults as faults
 use Rattle.ts_opening.specs.Engine.{Kept, IsAt}

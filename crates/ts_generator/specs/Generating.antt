@@ -7,7 +7,7 @@ use Rattle.ts_disk.specs.Device.{Device, Rose, FirstSync, LeavesOnly, Saying}
 use Rattle.ts_journal.specs.Moment.{Keeps, OnlyReads}
 use Rattle.ts_command.specs.declared.command.Command.{Command}
 use Rattle.ts_model.specs.Catalogue.{Catalogue}
-use Rattle.ts_answer.specs.State.{State, resting, committed, after, replies}
+use Rattle.ts_answer.specs.Answer.{State, resting, committed, after, replies}
 use Rattle.ts_answer.specs.Outcomes.{ends_with_ok}
 use Rattle.ts_opening.specs.Engine.{StepFault}
 use Rattle.ts_opening.specs.Faults.{Disk, Memory, Closed}

@@ -6,8 +6,7 @@ use Rattle.std.specs.Cmp.{int_cmp_total, eq_by_cmp_equiv}
 use Rattle.std.specs.FinMap.{empty, entries, from_entries, insert, remove, find, same_map, int_cmp-IsAntisymmetric, entries-insert, get-entries, get-from_entries, get-remove, len-empty, len-entries}
 use Rattle.std.specs.FinMap.Entries.{put, by_order, where_key, find-where_key}
 use Rattle.std.specs.Ordering.{int_cmp, int_eq}
-use Rattle.ts_row.specs.Row.{Row}
-use Rattle.ts_row.specs.Element.{Element, has_hidden}
+use Rattle.ts_row.specs.Row.{Row, Element, has_hidden}
 use Rattle.ts_model.specs.Catalogue.{Elements}
 use Rattle.ts_hidden.specs.Hidden.{AreShown}
 

@@ -5,14 +5,13 @@ use Rattle.ts_row.specs.declared.value.Literal.{Literal}
 use Rattle.ts_row.specs.Row.{Row}
 use Rattle.ts_command.specs.declared.command.Command.{Command}
 use Rattle.ts_command.specs.declared.command.Command.TheVariants as commands
-use Rattle.ts_sheets.specs.Range.{without_range}
+use Rattle.ts_sheets.specs.Stamped.{without_range}
 use Rattle.ts_model.specs.declared.kind.Kind.{Kind}
 use Rattle.ts_model.specs.declared.kind.Kind.TheVariants as kinds
 use Rattle.ts_model.specs.Catalogue.{Elements, Series, Catalogue, columns_of}
-use Rattle.ts_rolling.specs.Keys.{window_key, control_key}
-use Rattle.ts_rolling.specs.Sets.{live}
+use Rattle.ts_rolling.specs.Sets.{window_key, control_key, live}
 use Rattle.ts_answer.specs.Answer.{Answered, Tried, ◌>>=◌, outcome, carried_out, create_row_type, drop_definition, create_pattern, turn_pattern, join_patterns, show_pattern, create_calendar, join_calendars, show_calendar, count_starts, find_start, list_starts, create_container, container_usage, create_irregular, create_regular, drop_series, list_series, put_element, put_no_dups, insert_element, update_element, delete_element, delete_range, mark_element, get_element, get_last_element, count_elements, get_first_element, get_nth_element, clip_series, count_clip, clip_counted, join_series, lag_series, aggregate_by, aggregate_range, aggregate_all, running_values, apply_exprs, wanted, a_row, with_element, without_one}
-use Rattle.ts_answer.specs.Rolling.{roll_create, roll_put, roll_clip, roll_drop, without_windows}
+use Rattle.ts_answer.specs.Elements.{roll_create, roll_put, roll_clip, roll_drop, without_windows}
 use Rattle.ts_hidden.specs.Hidden.{AreShown, IsShown, OnlyHideElemHides, hidden_by}
 use Rattle.ts_hidden.proofs.ElementLemmas.{none_hidden, put_shown, removed_shown, listed_shown, some_listed}
 use Rattle.ts_hidden.proofs.SpareLemmas.{Spares, there_is, whole, series_put, edited, gone, row_shown}

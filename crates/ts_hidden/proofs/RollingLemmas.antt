@@ -2,10 +2,9 @@
 use Rattle.std.proofs.Common.{◌≡◌, ℕ, Bool, true, false, Ok, Err, List, [], ◌∷◌, refl, ap, subst, ◌∙◌}
 use Rattle.std.specs.FinMap.{empty}
 use Rattle.ts_model.specs.declared.kind.Kind.TheVariants as kinds
-use Rattle.ts_model.specs.Catalogue.{Irregular, Catalogue}
-use Rattle.ts_model.specs.Kinds.{with_named, without}
-use Rattle.ts_rolling.specs.Keys.{window_key}
-use Rattle.ts_answer.specs.Rolling.{without_windows, with_window}
+use Rattle.ts_model.specs.Catalogue.{Irregular, Catalogue, with_named, without}
+use Rattle.ts_rolling.specs.Sets.{window_key}
+use Rattle.ts_answer.specs.Elements.{without_windows, with_window}
 use Rattle.ts_answer.specs.Reply.{ok_line}
 use Rattle.ts_answer.specs.Answer.{Answered, Tried, ◌>>=◌, create_irregular}
 use Rattle.ts_hidden.proofs.ElementLemmas.{none_hidden}

@@ -6,8 +6,7 @@ use Rattle.ts_row.specs.declared.kind.Column.{Column}
 use Rattle.ts_row.specs.declared.value.Literal.{Literal}
 use Rattle.ts_row.specs.Row.{Values, Row, visible, visible_if_any, values_from}
 use Rattle.ts_model.specs.declared.kind.Kind.TheVariants as kinds
-use Rattle.ts_model.specs.Catalogue.{name_cmp, Named, Elements, Series, Catalogue}
-use Rattle.ts_model.specs.Kinds.{with_named, without}
+use Rattle.ts_model.specs.Catalogue.{name_cmp, Named, Elements, Series, Catalogue, with_named, without}
 use Rattle.ts_model.proofs.OrderLemmas.{total, ties-same}
 use Rattle.ts_answer.specs.Answer.{known, wanted, a_row, row_or_mismatch, with_elements}
 use Rattle.ts_hidden.specs.Hidden.{AreShown, IsShown}

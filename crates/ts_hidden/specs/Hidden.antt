@@ -1,7 +1,7 @@
 -- Which series have no hidden element, and what commands leave of that.
 use Rattle.std.specs.Prelude.{◌≡◌, ℕ, Bool, false, IsTrue, Option, Some, None, Ok, List}
 use Rattle.std.specs.FinMap.{entries, get}
-use Rattle.ts_row.specs.Element.{has_hidden}
+use Rattle.ts_row.specs.Row.{has_hidden}
 use Rattle.ts_command.specs.declared.command.Command.{Command}
 use Rattle.ts_command.specs.declared.command.Command.TheVariants as commands
 use Rattle.ts_model.specs.Catalogue.{Elements, Series, Catalogue}

@@ -8,9 +8,8 @@ use Rattle.std.proofs.lemmas.List.{take-append-drop, take_at, drop_at, take-appe
 use Rattle.std.proofs.lemmas.List.Concat.{flat_map-cons}
 use Rattle.std.proofs.lemmas.Nat.{le-div}
 use Rattle.ts_row.specs.declared.kind.Column.{Column}
-use Rattle.ts_row.specs.RowType.{width_of}
-use Rattle.ts_cells.specs.Cell.{Element, IsElement, stamp_bytes, cell_bytes, cell_size, page_room}
-use Rattle.ts_cells.specs.IrregularPage.{AreElements, cells_bytes, behind_head}
+use Rattle.ts_row.specs.Row.{width_of}
+use Rattle.ts_cells.specs.IrregularPage.{Element, IsElement, stamp_bytes, cell_bytes, cell_size, page_room, AreElements, cells_bytes, behind_head}
 use Rattle.ts_cells.proofs.CellLemmas.{units_back}
 use Rattle.ts_cells.proofs.HeadLemmas.{cells_fit}
 use Rattle.ts_cells.proofs.PageLemmas.{length-cell_bytes, length-cells_bytes, AreElements-front, cut}

@@ -10,10 +10,8 @@ use Rattle.std.specs.FinMap.Entries.{by_order}
 use Rattle.std.proofs.lemmas.Int.{by_lt_z, ints}
 use Rattle.ts_base.specs.Moment.{IsStamp}
 use Rattle.ts_row.specs.declared.kind.Column.{Column}
-use Rattle.ts_row.specs.Row.{Row, marked, fits}
-use Rattle.ts_row.specs.Element.{Element, seen}
-use Rattle.ts_cells.specs.Cell.{IsElement}
-use Rattle.ts_cells.specs.IrregularPage.{AreElements, AreRising, AreInOrder}
+use Rattle.ts_row.specs.Row.{Row, marked, fits, Element, seen}
+use Rattle.ts_cells.specs.IrregularPage.{IsElement, AreElements, AreRising, AreInOrder}
 use Rattle.ts_irregular.specs.Edit.{element_at, with_element, row_if_seen, rank_of}
 use Rattle.ts_irregular.proofs.EditLemmas.{AreRising-tail, element_at-lower, element_at-higher, element_at-same, none_after, rank_below_length, put_there, with_in_order}
 use Rattle.ts_irregular.proofs.BytesLemmas.{length-replaced}

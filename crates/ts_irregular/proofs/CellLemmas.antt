@@ -5,10 +5,9 @@ use Rattle.std.proofs.lemmas.List.{take_at}
 use Rattle.std.proofs.lemmas.Option.{slice_get_within}
 use Rattle.std.proofs.Math.Seq.{take-length}
 use Rattle.ts_row.specs.declared.kind.Column.{Column}
-use Rattle.ts_row.specs.RowType.{width_of}
+use Rattle.ts_row.specs.Row.{width_of}
 use Rattle.ts_row.specs.Encoding.{row_bytes}
-use Rattle.ts_cells.specs.Cell.{Element, IsElement, cell_bytes, cell_size}
-use Rattle.ts_cells.specs.IrregularPage.{AreElements, behind_head}
+use Rattle.ts_cells.specs.IrregularPage.{Element, IsElement, cell_bytes, cell_size, AreElements, behind_head}
 use Rattle.ts_cells.proofs.PageLemmas.{length-cell_bytes}
 use Rattle.ts_irregular.proofs.BytesLemmas.{Part, part}
 use Rattle.ts_irregular.proofs.SeeLemmas.{some_one}

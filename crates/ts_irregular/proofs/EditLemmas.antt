@@ -5,8 +5,7 @@ use Rattle.std.specs.Ordering.{int_eq}
 use Rattle.std.proofs.lemmas.Int.{by_lt_z, ints}
 use Rattle.ts_row.specs.declared.kind.Column.{Column}
 use Rattle.ts_row.specs.Row.{Row}
-use Rattle.ts_cells.specs.Cell.{Element, IsElement}
-use Rattle.ts_cells.specs.IrregularPage.{AreElements, AreRising, AreInOrder, first_stamp}
+use Rattle.ts_cells.specs.IrregularPage.{Element, IsElement, AreElements, AreRising, AreInOrder, first_stamp}
 use Rattle.ts_irregular.specs.Edit.{element_at, with_element, without_element, rank_of}
 
 -- what a test of stamps says

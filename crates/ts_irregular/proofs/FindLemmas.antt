@@ -1,12 +1,10 @@
 -- A page that was judged before is read by its head.
 use Rattle.std.proofs.Common.{◌≡◌, ℕ, ℤ, Bool, IsTrue, Option, Some, None, Ok, List, [], ◌∷◌, length, drop, inr, sym, ap, subst, ◌∙◌, arith}
 use Rattle.ts_space.specs.declared.place.Place.{Place}
-use Rattle.ts_page.specs.Head.{head_of}
-use Rattle.ts_page.specs.Pages.{Contents, IsElementPage, Got}
+use Rattle.ts_page.specs.Pages.{head_of, Contents, IsElementPage, Got}
 use Rattle.ts_row.specs.declared.kind.Column.{Column}
 use Rattle.ts_row.specs.Row.{Row}
-use Rattle.ts_cells.specs.Cell.{Element}
-use Rattle.ts_cells.specs.IrregularPage.{AreInOrder, behind_head}
+use Rattle.ts_cells.specs.IrregularPage.{Element, AreInOrder, behind_head}
 use Rattle.ts_irregular.specs.Edit.{element_at}
 use Rattle.ts_irregular.specs.OnePage.{told_in, IsOn, AreOn}
 use Rattle.ts_irregular.specs.Call.{IsRowThere}

@@ -5,11 +5,10 @@ use Rattle.std.specs.Int.{from_be_bytes, cast_signed}
 use Rattle.std.proofs.lemmas.Int.{to_z-of_z, ints}
 use Rattle.std.proofs.lemmas.List.{drop_all, drop_at, drop-drop, length-take-le, length-replicate}
 use Rattle.std.proofs.Math.Seq.{take-length, take-append_seam}
-use Rattle.ts_page.specs.Head.{head_bytes}
+use Rattle.ts_page.specs.Pages.{head_bytes}
 use Rattle.ts_page.specs.declared.page.Head.TheVariants.{Irregular}
 use Rattle.ts_row.specs.declared.kind.Column.{Column}
-use Rattle.ts_cells.specs.Cell.{Element, cell_size, page_room}
-use Rattle.ts_cells.specs.IrregularPage.{AreElements, cells_bytes, behind_head, irregular_page}
+use Rattle.ts_cells.specs.IrregularPage.{Element, cell_size, page_room, AreElements, cells_bytes, behind_head, irregular_page}
 use Rattle.ts_cells.proofs.HeadLemmas.{cells_fit, irregular_behind}
 use Rattle.ts_cells.proofs.PageLemmas.{length-cells_bytes}
 use Rattle.ts_irregular.specs.OnePage.{place_of}

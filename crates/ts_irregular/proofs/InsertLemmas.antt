@@ -8,8 +8,7 @@ use Rattle.ts_space.specs.declared.place.Place.{Place}
 use Rattle.ts_page.specs.Pages.{Contents, EqualPages, Got, Put, Taken, IsElementPage}
 use Rattle.ts_row.specs.declared.kind.Column.{Column}
 use Rattle.ts_row.specs.Row.{Row, fits}
-use Rattle.ts_cells.specs.Cell.{Element, IsElement, page_room}
-use Rattle.ts_cells.specs.IrregularPage.{AreElements, AreInOrder, IsIrregularPage, behind_head, irregular_page, first_stamp}
+use Rattle.ts_cells.specs.IrregularPage.{Element, IsElement, page_room, AreElements, AreInOrder, IsIrregularPage, behind_head, irregular_page, first_stamp}
 use Rattle.ts_irregular.specs.Edit.{element_at, with_element, search_of}
 use Rattle.ts_irregular.specs.OnePage.{IsOn, place_of}
 use Rattle.ts_irregular.specs.Call.{ArePut, IsTold, IsPutOver, IsMissing, IsIndexOf, IsIndexOn}

@@ -2,12 +2,9 @@
 use Rattle.std.proofs.Common.{◌≡◌, ◌≢◌, All, AllPairs, suc, ℕ, ◌<◌, ◌≤◌, ◌==◌, if◌then◌else◌, Bool, IsTrue, ℤ, Option, Some, List, [], ◌∷◌, length, refl, sym, ap, subst, ◌∙◌, arith}
 use Rattle.std.specs.Prelude.{Contains}
 use Rattle.ts_space.specs.declared.place.Place.{Place}
-use Rattle.ts_page.specs.Head.{zero_page}
-use Rattle.ts_page.specs.Pages.{Contents, EqualPages, with_page, Taken, IsLawful, IsListed}
+use Rattle.ts_page.specs.Pages.{zero_page, Contents, EqualPages, with_page, Taken, IsLawful, IsListed, first_element_page}
 use Rattle.ts_row.specs.declared.kind.Column.{Column}
-use Rattle.ts_cells.specs.Cell.{Element}
-use Rattle.ts_cells.specs.IrregularPage.{irregular_page}
-use Rattle.ts_page.specs.Volume.{first_element_page}
+use Rattle.ts_cells.specs.IrregularPage.{Element, irregular_page}
 use Rattle.ts_irregular.specs.OnePage.{place_of}
 use Rattle.ts_irregular.specs.Call.{IsPagePut, AreKept}
 

@@ -6,7 +6,7 @@ use Rattle.std.proofs.Math.Seq.{take-length}
 use Rattle.ts_page.specs.Pages.{Contents, Got, IsElementPage}
 use Rattle.ts_space.specs.declared.place.Place.{Place}
 use Rattle.ts_row.specs.declared.kind.Column.{Column}
-use Rattle.ts_row.specs.Element.{Element, seen}
+use Rattle.ts_row.specs.Row.{Element, seen}
 use Rattle.ts_cells.specs.IrregularPage.{AreInOrder, behind_head}
 use Rattle.ts_irregular.specs.Edit.{last_of, last_seen}
 use Rattle.ts_irregular.specs.OnePage.{IsOn}

@@ -1,8 +1,7 @@
 -- Edits by the index that a search gives.
 use Rattle.std.proofs.Common.{◌≡◌, ℕ, ◌+◌, ◌-◌, ◌<◌, ℤ, Result, Ok, Err, List, ◌∷◌, ◌++◌, length, take, drop, sym, ap, ◌∙◌, arith}
 use Rattle.ts_row.specs.Row.{Row}
-use Rattle.ts_cells.specs.Cell.{Element}
-use Rattle.ts_cells.specs.IrregularPage.{AreRising}
+use Rattle.ts_cells.specs.IrregularPage.{Element, AreRising}
 use Rattle.ts_irregular.specs.Edit.{with_element, without_element, search_of}
 use Rattle.ts_irregular.proofs.EditLemmas.{put_new, put_there, take_none, take_there}
 use Rattle.ts_irregular.proofs.SearchLemmas.{search_ok, search_err}

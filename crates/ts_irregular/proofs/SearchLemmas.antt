@@ -7,8 +7,7 @@ use Rattle.std.proofs.lemmas.Int.{by_lt_z, to_z-of_z, ints}
 use Rattle.ts_base.specs.Moment.{IsStamp}
 use Rattle.ts_row.specs.declared.kind.Column.{Column}
 use Rattle.ts_row.specs.Row.{Row}
-use Rattle.ts_cells.specs.Cell.{Element}
-use Rattle.ts_cells.specs.IrregularPage.{AreRising, AreInOrder, behind_head}
+use Rattle.ts_cells.specs.IrregularPage.{Element, AreRising, AreInOrder, behind_head}
 use Rattle.ts_irregular.specs.Edit.{element_at, rank_of, search_of}
 use Rattle.ts_irregular.proofs.EditLemmas.{found_at, not_found_at, not_found_past, rank_above, rank_below, rank_within}
 use Rattle.ts_irregular.proofs.BytesLemmas.{Part, part}

@@ -1,11 +1,10 @@
 -- A page judged against its place.
 use Rattle.std.proofs.Common.{◌≡◌, ℕ, ◌-◌, ◌*◌, Option, Some, List, [], length, drop, replicate, ap, ◌∙◌, arith}
 use Rattle.std.proofs.lemmas.List.{drop-replicate}
-use Rattle.ts_page.specs.Head.{head_of, zero_page}
+use Rattle.ts_page.specs.Pages.{head_of, zero_page}
 use Rattle.ts_page.specs.declared.page.Head.TheVariants.{Irregular}
 use Rattle.ts_row.specs.declared.kind.Column.{Column}
-use Rattle.ts_cells.specs.Cell.{Element, cell_size}
-use Rattle.ts_cells.specs.IrregularPage.{IsIrregularPage, behind_head}
+use Rattle.ts_cells.specs.IrregularPage.{Element, cell_size, IsIrregularPage, behind_head}
 use Rattle.ts_cells.proofs.HeadLemmas.{irregular_head, irregular_behind, few_fit}
 
 -- what two options that are one hold

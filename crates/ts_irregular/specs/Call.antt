@@ -3,13 +3,10 @@ pub use Rattle.ts_page.specs.Unchanged.{Reads, Stays, AreLeft}
 use Rattle.std.specs.Prelude.{◌≡◌, ℕ, ◌+◌, ◌≤◌, ℤ, Bool, true, false, IsTrue, Option, Some, None, IsSome, Ok, List, []}
 use Rattle.std.specs.Prelude.{◌∷◌, length}
 use Rattle.ts_space.specs.declared.place.Place.{Place}
-use Rattle.ts_page.specs.Head.{zero_page}
-use Rattle.ts_page.specs.Pages.{Contents, EqualPages, with_page}
+use Rattle.ts_page.specs.Pages.{zero_page, Contents, EqualPages, with_page}
 use Rattle.ts_row.specs.declared.kind.Column.{Column}
-use Rattle.ts_row.specs.Row.{Row, marked}
-use Rattle.ts_row.specs.Element.{Element}
-use Rattle.ts_cells.specs.Cell.{page_room}
-use Rattle.ts_cells.specs.IrregularPage.{AreInOrder, irregular_page}
+use Rattle.ts_row.specs.Row.{Row, marked, Element}
+use Rattle.ts_cells.specs.IrregularPage.{page_room, AreInOrder, irregular_page}
 use Rattle.ts_irregular.specs.Edit.{element_at, with_element, last_seen, search_of}
 use Rattle.ts_irregular.specs.OnePage.{place_of, IsOn, AreOn}
 

@@ -3,9 +3,8 @@ use Rattle.std.specs.Prelude.{ℕ, suc, ℤ, int_lt, not, if◌then◌else◌, O
 use Rattle.std.specs.Prelude.{Result, Ok, Err, List, [], ◌∷◌, filter}
 use Rattle.std.specs.Ordering.{int_cmp, int_eq}
 use Rattle.std.specs.FinMap.{put}
-use Rattle.ts_row.specs.Row.{Row}
-use Rattle.ts_row.specs.Element.{Element, seen}
-pub use Rattle.ts_row.specs.Element.{element_at, last_of}
+use Rattle.ts_row.specs.Row.{Row, Element, seen}
+pub use Rattle.ts_row.specs.Row.{element_at, last_of}
 
 -- the row of an element that isn't hidden
 abbrev pub row_if_seen : Row → Option Row

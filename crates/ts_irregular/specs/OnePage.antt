@@ -6,9 +6,8 @@ use Rattle.ts_page.specs.declared.page.Head.{Head}
 use Rattle.ts_page.specs.declared.page.Head.TheVariants.{Free, Regular, Irregular}
 use Rattle.ts_page.specs.Pages.{Contents, IsElementPage}
 use Rattle.ts_row.specs.declared.kind.Column.{Column}
-use Rattle.ts_row.specs.Element.{Element}
-use Rattle.ts_cells.specs.Cell.{page_room}
-use Rattle.ts_cells.specs.IrregularPage.{IsIrregularPage, first_stamp}
+use Rattle.ts_row.specs.Row.{Element}
+use Rattle.ts_cells.specs.IrregularPage.{page_room, IsIrregularPage, first_stamp}
 
 -- a place is that of an element page which `take` can't give, with one element at least, and no more than there is room
 -- for

@@ -1,10 +1,8 @@
 // One cell behind the head of a page, by its index.
 ghost use Rattle.std.specs.Prelude.{◌≡◌, ◌+◌, ◌<◌, IsTrue, IfOk, IfSome, Some, List, ◌∷◌, ◌++◌, length, take, drop};
 ghost use Rattle.std.specs.Prelude.{slice_get, option_map};
-ghost use Rattle.ts_row.specs.Row.{fits, marked};
-ghost use Rattle.ts_row.specs.Element.{Element};
-ghost use Rattle.ts_cells.specs.Cell.{cell_bytes, cell_size, page_room};
-ghost use Rattle.ts_cells.specs.IrregularPage.{AreElements, behind_head};
+ghost use Rattle.ts_row.specs.Row.{fits, marked, Element};
+ghost use Rattle.ts_cells.specs.IrregularPage.{cell_bytes, cell_size, page_room, AreElements, behind_head};
 
 use std::alloc::AllocError;
 use ts_cells::{cell_size, is_hidden_cell, mark_cell};

@@ -1,9 +1,7 @@
 // The cells behind the head of a page, edited.
 ghost use Rattle.std.specs.Prelude.{◌≡◌, ◌+◌, ◌*◌, ◌<◌, ◌≤◌, IsTrue, List, ◌∷◌, ◌++◌, length, take, drop, replicate};
-ghost use Rattle.ts_row.specs.Row.{fits};
-ghost use Rattle.ts_row.specs.Element.{Element};
-ghost use Rattle.ts_cells.specs.Cell.{page_room};
-ghost use Rattle.ts_cells.specs.IrregularPage.{AreElements, AreInOrder, behind_head};
+ghost use Rattle.ts_row.specs.Row.{fits, Element};
+ghost use Rattle.ts_cells.specs.IrregularPage.{page_room, AreElements, AreInOrder, behind_head};
 ghost use Rattle.ts_irregular.specs.Edit.{without_element};
 
 use crate::stamps::search;

@@ -1,8 +1,8 @@
 // The row at a stamp, where the page was judged before.
 ghost use Rattle.std.specs.Prelude.{◌≡◌, ◌↔◌, ◌<◌, ◌≤◌, IsTrue, List, length};
-ghost use Rattle.ts_page.specs.Head.{head_of, zero_page};
-ghost use Rattle.ts_row.specs.Element.{Element};
-ghost use Rattle.ts_cells.specs.Cell.{page_room};
+ghost use Rattle.ts_page.specs.Pages.{head_of, zero_page};
+ghost use Rattle.ts_row.specs.Row.{Element};
+ghost use Rattle.ts_cells.specs.IrregularPage.{page_room};
 ghost use Rattle.ts_irregular.specs.OnePage.{IsOn, told_in};
 
 use ts_cells::page_room;

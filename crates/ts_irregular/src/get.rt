@@ -1,9 +1,7 @@
 // The row at a stamp.
 ghost use Rattle.std.specs.Prelude.{◌≡◌, ◌<◌, ◌≤◌, IsTrue, IfOk, IfSome, List, length};
-ghost use Rattle.ts_row.specs.Row.{fits};
-ghost use Rattle.ts_row.specs.Element.{Element};
-ghost use Rattle.ts_cells.specs.Cell.{page_room};
-ghost use Rattle.ts_cells.specs.IrregularPage.{AreInOrder, behind_head};
+ghost use Rattle.ts_row.specs.Row.{fits, Element};
+ghost use Rattle.ts_cells.specs.IrregularPage.{page_room, AreInOrder, behind_head};
 ghost use Rattle.ts_irregular.specs.Edit.{element_at};
 
 use crate::cell::row_at_index;

@@ -1,6 +1,6 @@
 // Where a stamp stands on the page of a series.
 ghost use Rattle.std.specs.Prelude.{◌<◌, IfOk, IfSome};
-ghost use Rattle.ts_cells.specs.Cell.{page_room};
+ghost use Rattle.ts_cells.specs.IrregularPage.{page_room};
 ghost use Rattle.ts_irregular.specs.OnePage.{IsPlace};
 ghost use Rattle.ts_irregular.specs.Call.{Reads, IsIndexOn};
 

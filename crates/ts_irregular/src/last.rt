@@ -1,9 +1,7 @@
 // The last element that isn't hidden.
 ghost use Rattle.std.specs.Prelude.{◌≡◌, ◌<◌, ◌≤◌, IsTrue, IfOk, IfSome, List, length, slice_get, option_and_then};
-ghost use Rattle.ts_row.specs.Row.{fits};
-ghost use Rattle.ts_row.specs.Element.{Element};
-ghost use Rattle.ts_cells.specs.Cell.{page_room};
-ghost use Rattle.ts_cells.specs.IrregularPage.{AreElements, AreInOrder, behind_head};
+ghost use Rattle.ts_row.specs.Row.{fits, Element};
+ghost use Rattle.ts_cells.specs.IrregularPage.{page_room, AreElements, AreInOrder, behind_head};
 ghost use Rattle.ts_irregular.specs.Edit.{last_seen};
 
 use crate::cell::{is_hidden_at, row_at_index};

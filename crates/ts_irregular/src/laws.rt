@@ -3,10 +3,8 @@ ghost use Rattle.std.specs.Prelude.{◌≡◌, ◌+◌, ◌≤◌, ℤ, Bool, So
 ghost use Rattle.std.specs.Ordering.{int_cmp};
 ghost use Rattle.std.specs.FinMap.{from_entries, entries, insert, remove, get};
 ghost use Rattle.ts_row.specs.declared.kind.Column.{Column as TheColumn};
-ghost use Rattle.ts_row.specs.Row.{Row, marked};
-ghost use Rattle.ts_row.specs.Element.{Element, seen};
-ghost use Rattle.ts_cells.specs.Cell.{IsElement};
-ghost use Rattle.ts_cells.specs.IrregularPage.{AreInOrder, AreRising};
+ghost use Rattle.ts_row.specs.Row.{Row, marked, Element, seen};
+ghost use Rattle.ts_cells.specs.IrregularPage.{IsElement, AreInOrder, AreRising};
 ghost use Rattle.ts_irregular.specs.Edit.{element_at, with_element, without_element, row_if_seen};
 
 /// Edits of the list are those of the map that it makes.

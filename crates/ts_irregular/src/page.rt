@@ -1,9 +1,7 @@
 // The page of a series, edited, and its place.
 ghost use Rattle.std.specs.Prelude.{◌≡◌, ◌<◌, ◌≤◌, IsTrue, Err, List, [], ◌∷◌, length, drop};
-ghost use Rattle.ts_row.specs.Row.{fits};
-ghost use Rattle.ts_row.specs.Element.{Element};
-ghost use Rattle.ts_cells.specs.Cell.{page_room};
-ghost use Rattle.ts_cells.specs.IrregularPage.{AreElements, AreInOrder, behind_head, irregular_page};
+ghost use Rattle.ts_row.specs.Row.{fits, Element};
+ghost use Rattle.ts_cells.specs.IrregularPage.{page_room, AreElements, AreInOrder, behind_head, irregular_page};
 ghost use Rattle.ts_irregular.specs.Edit.{with_element, without_element, search_of};
 ghost use Rattle.ts_irregular.specs.OnePage.{place_of};
 

@@ -1,9 +1,8 @@
 // The place of a stamp among the cells of a page.
 ghost use Rattle.std.specs.Prelude.{◌≡◌, ◌+◌, ◌*◌, ◌<◌, ◌≤◌, IfOk, IfErr, List, length, take, drop};
 ghost use Rattle.std.specs.Int.{w64, from_be_bytes, cast_signed};
-ghost use Rattle.ts_row.specs.Element.{Element};
-ghost use Rattle.ts_cells.specs.Cell.{page_room};
-ghost use Rattle.ts_cells.specs.IrregularPage.{AreInOrder, behind_head};
+ghost use Rattle.ts_row.specs.Row.{Element};
+ghost use Rattle.ts_cells.specs.IrregularPage.{page_room, AreInOrder, behind_head};
 ghost use Rattle.ts_irregular.specs.Edit.{rank_of, search_of};
 
 use ts_base::Stamp;

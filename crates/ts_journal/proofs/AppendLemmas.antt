@@ -3,9 +3,7 @@ use Rattle.std.proofs.Common.{◌≡◌, inl, inr, ℕ, ◌+◌, Bool, IsTrue, R
 use Rattle.std.proofs.lemmas.Bool.{false≢true}
 use Rattle.ts_disk.specs.Device.{Device, Only, Torn, LeavesOnly, WrittenAt, Synced, Rose, overwritten}
 use Rattle.ts_disk.proofs.Moments.{calls_on, leaves_map}
-use Rattle.ts_journal.specs.Gate.{open_gate}
-use Rattle.ts_journal.specs.Entry.{Entry}
-use Rattle.ts_journal.specs.Record.{body_bytes}
+use Rattle.ts_journal.specs.Journal.{open_gate, Entry, body_bytes}
 use Rattle.ts_journal.specs.Moment.{Keeps, TornFrom, WritesWithin}
 use Rattle.ts_journal.specs.Steps.{staged, Appending, Appends}
 use Rattle.ts_journal.proofs.WriteLemmas.{on_ok_map, keeps_then, keeps_sync, keeps_write}

@@ -7,7 +7,7 @@ use Rattle.std.proofs.lemmas.List.{take_more, flat_map_more}
 use Rattle.std.proofs.lemmas.List.Concat.{flat_map-append}
 use Rattle.ts_journal.specs.declared.batch.Change.{Change}
 use Rattle.ts_journal.specs.declared.batch.Change.TheVariants.{Image}
-use Rattle.ts_journal.specs.Entry.{Entry, IsRising, IsWhole, AreWhole, IsBatch, change_of, put, put_all, entry_bytes, entries_bytes}
+use Rattle.ts_journal.specs.Journal.{Entry, IsRising, IsWhole, AreWhole, IsBatch, change_of, put, put_all, entry_bytes, entries_bytes}
 use Rattle.ts_journal.specs.Place.{place_of, stands_at}
 
 -- what a read past the end would give

@@ -3,7 +3,7 @@ use Rattle.std.proofs.Common.{◌≡◌, inl, inr, ℕ, Bool, IsTrue, Result, Ok
 use Rattle.std.proofs.lemmas.Bool.{false≢true}
 use Rattle.ts_disk.specs.Device.{Device, Lawful, Only, Torn, LeavesOnly, WrittenAt, Synced, Rose, overwritten}
 use Rattle.ts_disk.proofs.Moments.{calls_on, leaves_map}
-use Rattle.ts_journal.specs.Entry.{Entry}
+use Rattle.ts_journal.specs.Journal.{Entry}
 use Rattle.ts_journal.specs.Moment.{Keeps}
 use Rattle.ts_journal.specs.Steps.{Beside, AreHome, BesideFrom, WritesHome, BroughtHome, Emptying, Empties}
 use Rattle.ts_journal.proofs.WriteLemmas.{keeps_then, keeps_sync, keeps_write}

@@ -5,12 +5,11 @@ use Rattle.std.proofs.lemmas.List.{take_more, take_all, take-take}
 use Rattle.ts_disk.specs.Device.{Device, Lawful, Torn, Follows, LeavesOnly, overwritten}
 use Rattle.ts_disk.specs.declared.volume.Failed.{Failed}
 use Rattle.ts_disk.proofs.Moments.{started, leaves_map, then_on}
-use Rattle.ts_page.specs.Head.{bytes_at}
+use Rattle.ts_page.specs.Pages.{bytes_at}
 use Rattle.ts_journal.specs.declared.batch.Change.{Change}
 use Rattle.ts_journal.specs.declared.batch.Change.TheVariants.{Image, Free}
-use Rattle.ts_journal.specs.Entry.{Entry, IsRising, IsWhole, IsAllowed, AreAllowed, change_of}
+use Rattle.ts_journal.specs.Journal.{Entry, IsRising, IsWhole, IsAllowed, AreAllowed, change_of, page_count}
 use Rattle.ts_journal.specs.declared.pen.Pen.{Pen}
-use Rattle.ts_journal.specs.Journal.{page_count}
 use Rattle.ts_journal.specs.Moment.{Keeps, TornFrom, WritesWithin, Writes}
 use Rattle.ts_journal.specs.Pen.{pending, Adds, Moved}
 use Rattle.ts_journal.specs.Steps.{Beside, home_bytes, IsHome, AreHome, BesideFrom, WritesHome}

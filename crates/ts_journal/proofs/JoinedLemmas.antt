@@ -4,7 +4,7 @@ use Rattle.std.specs.Option.{unwrap_or}
 use Rattle.std.proofs.lemmas.List.{length-map, get_or-map, get_or-drop, drop-map, drop-drop}
 use Rattle.std.proofs.lemmas.Bool.{cond-true, cond-false, cases_eq, cases_lt, eq-eqb, ne_eqb, lt-ltb, le-ltb}
 use Rattle.ts_journal.specs.declared.batch.Change.{Change}
-use Rattle.ts_journal.specs.Entry.{Entry, IsRising, IsWhole, AreWhole, IsBatch, change_of, put}
+use Rattle.ts_journal.specs.Journal.{Entry, IsRising, IsWhole, AreWhole, IsBatch, change_of, put}
 use Rattle.ts_journal.specs.Stored.{with_images, Sets}
 
 pub joined_rising : (images es : List Entry) (least top : ℕ) → IsRising least top es → IsRising least top (with_images images es)

@@ -2,8 +2,7 @@
 use Rattle.std.proofs.Common.{◌≡◌, ℕ, suc, ◌+◌, Some, cond, eqb, List, [], ◌∷◌, ◌++◌, All, reverse, refl, ap, sym, ◌∙◌, arith, append_assoc}
 use Rattle.std.specs.List.{flat_map}
 use Rattle.std.proofs.lemmas.List.{reverse-append, append-nil}
-use Rattle.ts_journal.specs.Entry.{Entry, IsRising, change_of, put, put_all}
-use Rattle.ts_journal.specs.Journal.{overlay_from, overlay_of, last_change}
+use Rattle.ts_journal.specs.Journal.{Entry, IsRising, change_of, put, put_all, overlay_from, overlay_of, last_change}
 use Rattle.ts_journal.proofs.BatchLemmas.{put_rising}
 use Rattle.ts_journal.proofs.HomeLemmas.{rising_bound}
 use Rattle.ts_journal.proofs.OverlayLemmas.{change_of-put}

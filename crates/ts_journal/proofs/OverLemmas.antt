@@ -3,8 +3,7 @@ use Rattle.std.proofs.Common.{◌≡◌, inl, inr, ℕ, ◌+◌, Bool, true, fal
 use Rattle.std.proofs.lemmas.Bool.{cond-true, cond-false, cases_eq, eq-eqb, ne_eqb}
 use Rattle.ts_page.specs.Pages.{with_page}
 use Rattle.ts_journal.specs.declared.batch.Change.{Change}
-use Rattle.ts_journal.specs.Entry.{Entry, IsRising, change_of, content, put, put_all, put_page, put_pages, changed, change_or, over}
-use Rattle.ts_journal.specs.Journal.{own_page, pages, StandsOver}
+use Rattle.ts_journal.specs.Journal.{Entry, IsRising, change_of, content, put, put_all, put_page, put_pages, changed, change_or, over, own_page, pages, StandsOver}
 use Rattle.ts_journal.proofs.BatchLemmas.{none_below}
 use Rattle.ts_journal.proofs.OverlayLemmas.{change_of-put, pages_shown}
 

@@ -5,10 +5,9 @@ use Rattle.std.specs.Int.{to_be_bytes, w32}
 use Rattle.std.proofs.lemmas.Nat.{from_be_bytes-to_be_bytes_4}
 use Rattle.std.proofs.lemmas.Bool.{cond-true, and_from, and_right, not_from_false, le-leb, lt-leb, lt-ltb}
 use Rattle.std.proofs.lemmas.List.{take_at, drop_at}
-use Rattle.ts_page.specs.Volume.{first_element_page}
+use Rattle.ts_page.specs.Pages.{first_element_page}
 use Rattle.ts_journal.specs.declared.batch.Change.TheVariants.{Image, Free}
-use Rattle.ts_journal.specs.Entry.{Entry, IsRising, IsWhole, AreWhole, IsAllowed, AreAllowed, is_region, entry_bytes, entries_bytes}
-use Rattle.ts_journal.specs.Record.{entry_if_any, first_entry, entries_in}
+use Rattle.ts_journal.specs.Journal.{Entry, IsRising, IsWhole, AreWhole, IsAllowed, AreAllowed, is_region, entry_bytes, entries_bytes, entry_if_any, first_entry, entries_in}
 
 -- a number outside of the region
 pub no_region : (number : ℕ) → (number ≡ 0) ⊎ (256 < number) → not (is_region number) ≡ true

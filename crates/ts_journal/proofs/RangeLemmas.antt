@@ -3,7 +3,7 @@ use Rattle.std.proofs.Common.{◌≡◌, ◌⊎◌, ℕ, ◌+◌, ◌≤◌, Lis
 use Rattle.std.proofs.lemmas.List.{append-nil, take_at, drop_at, take-take, drop-drop, drop-take, length-take-le, take-append-le, drop-append-le}
 use Rattle.ts_disk.specs.Device.{Torn, overwritten}
 use Rattle.ts_disk.proofs.Ranges.{drop_further}
-use Rattle.ts_page.specs.Head.{bytes_at}
+use Rattle.ts_page.specs.Pages.{bytes_at}
 
 pub Torn-refl : (at n : ℕ) (bytes : List ℕ) → Torn at n bytes bytes
 Torn-refl at n bytes = record { len = refl; before = refl; after = refl }

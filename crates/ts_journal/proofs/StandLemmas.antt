@@ -8,14 +8,9 @@ use Rattle.std.proofs.lemmas.Nat.{be_bytes_4, from_be_bytes-to_be_bytes_4}
 use Rattle.std.proofs.lemmas.Option.{none-some, same_Some}
 use Rattle.std.proofs.lemmas.List.{get_or-take, get_or-drop, get_or_past, length-take, length-take-le}
 use Rattle.std.proofs.Math.Seq.{take-add}
-use Rattle.ts_page.specs.Head.{bytes_at}
-use Rattle.ts_page.specs.Pages.{is_region}
-use Rattle.ts_page.specs.Volume.{first_element_page}
+use Rattle.ts_page.specs.Pages.{bytes_at, is_region, first_element_page}
 use Rattle.ts_journal.specs.declared.batch.Change.TheVariants.{Image, Free}
-use Rattle.ts_journal.specs.Gate.{is_open}
-use Rattle.ts_journal.specs.Entry.{Entry, IsRising, IsWhole, AreWhole, IsAllowed, AreAllowed, entry_bytes, entries_bytes}
-use Rattle.ts_journal.specs.Record.{AreBytes, IsRecord, record_length, entry_if_any, first_entry, entries_in, first_record, records_in}
-use Rattle.ts_journal.specs.Journal.{IsVolumeSize, page_count, region, records, AreRecords, AreBeforeMalformed, IsMalformed}
+use Rattle.ts_journal.specs.Journal.{is_open, Entry, IsRising, IsWhole, AreWhole, IsAllowed, AreAllowed, entry_bytes, entries_bytes, AreBytes, IsRecord, record_length, entry_if_any, first_entry, entries_in, first_record, records_in, IsVolumeSize, page_count, region, records, AreRecords, AreBeforeMalformed, IsMalformed}
 use Rattle.ts_journal.proofs.ParseLemmas.{entries_step, entries_none, entries_end, entries_zero, entries_read}
 use Rattle.ts_journal.proofs.ImageLemmas.{closed_records, open_records, outside_region}
 use Rattle.ts_journal.proofs.RecordsLemmas.{tested, either, record_whole, record_parts, records_zero}

@@ -2,8 +2,8 @@
 use Rattle.std.specs.Prelude.{◌≡◌, ◌≢◌, ◌⊎◌, ℕ, ◌<◌, ◌≤◌, Bool, IsTrue, List, [], length, Result, Ok, Err, OnOk, IsOk}
 use Rattle.std.specs.Prelude.{IsErr}
 use Rattle.ts_disk.specs.Device.{Device, Only, Torn, Follows, LeavesOnly, Rose, overwritten}
-use Rattle.ts_journal.specs.Entry.{Entry, AreAllowed, put_pages}
-use Rattle.ts_journal.specs.Journal.{IsVolumeSize, page_count, pages, IsAtEnd, StandsOver, ReadsAs, ReadsButFreed}
+use Rattle.ts_journal.specs.Journal.{Entry, AreAllowed, put_pages, IsVolumeSize, page_count, pages, IsAtEnd, StandsOver}
+use Rattle.ts_journal.specs.Journal.{ReadsAs, ReadsButFreed}
 use Rattle.ts_journal.specs.declared.journal.CommitFault.{CommitFault}
 use Rattle.ts_journal.specs.declared.journal.CommitFault.TheVariants.{Failed, NoRoom}
 

@@ -1,6 +1,6 @@
 -- Where the entry of a page stands in a batch.
 use Rattle.std.specs.Prelude.{ℕ, zero, suc, Bool, false, ◌==◌, nat_lt, if◌then◌else◌, List, [], ◌∷◌}
-use Rattle.ts_journal.specs.Entry.{Entry}
+use Rattle.ts_journal.specs.Journal.{Entry}
 
 -- how many entries at the front have a lower number
 abbrev pub place_of : ℕ → List Entry → ℕ

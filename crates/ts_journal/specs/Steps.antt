@@ -2,15 +2,10 @@
 use Rattle.std.specs.Prelude.{◌≡◌, ◌⊎◌, ℕ, ◌+◌, ◌*◌, Bool, IsTrue, None, List, [], ◌∷◌, length, replicate, Result, OnOk}
 use Rattle.std.specs.Prelude.{IsOk, IsErr}
 use Rattle.ts_disk.specs.Device.{Device, Only, Torn, Follows, LeavesOnly, Rose, overwritten}
-use Rattle.ts_page.specs.Volume.{page_size, head_size, region_start}
-use Rattle.ts_page.specs.Head.{bytes_at}
-use Rattle.ts_page.specs.Pages.{HasFreeHead}
+use Rattle.ts_page.specs.Pages.{page_size, head_size, region_start, bytes_at, HasFreeHead}
 use Rattle.ts_journal.specs.declared.batch.Change.{Change}
 use Rattle.ts_journal.specs.declared.batch.Change.TheVariants.{Image, Free}
-use Rattle.ts_journal.specs.Gate.{open_gate}
-use Rattle.ts_journal.specs.Entry.{Entry, change_of}
-use Rattle.ts_journal.specs.Record.{body_bytes}
-use Rattle.ts_journal.specs.Journal.{region}
+use Rattle.ts_journal.specs.Journal.{open_gate, Entry, change_of, body_bytes, region}
 use Rattle.ts_journal.specs.Moment.{Keeps}
 
 -- the bytes with a record at this place behind a gate that is as it was

@@ -2,7 +2,7 @@
 ghost use Rattle.std.specs.Prelude.{◌≡◌, ◌+◌, ◌≤◌, ◌<◌, ◌^◌, [], map, length, OnOk, OnErr, IsOk};
 ghost use Rattle.std.specs.Option.{option_copied, unwrap_or};
 ghost use Rattle.ts_journal.specs.declared.batch.Change.TheVariants.{Free};
-ghost use Rattle.ts_journal.specs.Entry.{IsRising, IsWhole, IsBatch, change_of, put};
+ghost use Rattle.ts_journal.specs.Journal.{IsRising, IsWhole, IsBatch, change_of, put};
 ghost use Rattle.ts_journal.specs.Place.{place_of, stands_at};
 ghost use Rattle.ts_journal.specs.Stored.{entry_of, image_in, change_in, Sets};
 
@@ -22,7 +22,7 @@ pub(crate) struct Images {
 
 impl Model for Images {
     ghost use Rattle.std.specs.Prelude.{◌-◌, map, vec_len, vec_capacity};
-    ghost use Rattle.ts_journal.specs.Entry.{IsBatch};
+    ghost use Rattle.ts_journal.specs.Journal.{IsBatch};
     ghost use Rattle.ts_journal.specs.Stored.{Listed, entry_of};
 
     ghost Value = { Listed };

@@ -1,9 +1,8 @@
 // What holds of the bytes of every journal, and of the overlay of every list of records.
 ghost use Rattle.std.specs.Prelude.{◌≡◌, ◌≤◌, ◌<◌, ◌^◌, ℕ, List, All, length, Some, None};
-ghost use Rattle.ts_journal.specs.Entry.{Entry as AnEntry, IsRising, change_of, put_all, over};
-ghost use Rattle.ts_journal.specs.Record.{AreBytes, IsRecord, first_record};
-ghost use Rattle.ts_journal.specs.Journal.{IsVolumeSize, page_count, region, records, overlay_of, last_change};
-ghost use Rattle.ts_journal.specs.Journal.{AreRecords, IsMalformed};
+ghost use Rattle.ts_journal.specs.Journal.{Entry as AnEntry, IsRising, change_of, put_all, over, AreBytes, IsRecord};
+ghost use Rattle.ts_journal.specs.Journal.{first_record, IsVolumeSize, page_count, region, records, overlay_of};
+ghost use Rattle.ts_journal.specs.Journal.{last_change, AreRecords, IsMalformed};
 
 /// Bytes are read as a record exactly where it stands there.
 pub fn a_record_is_read_where_it_stands()

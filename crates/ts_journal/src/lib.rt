@@ -1,7 +1,7 @@
 //! The redo journal: batches of page changes, each on the disk whole or not at all. A record counts once the gate
 //! before it is open, and that gate is written last, alone, after a sync. So whatever a stop leaves, the pages are
 //! those before a batch or those after it (`specs/Journal`, `specs/Moment`). Stands on ts_disk and ts_page; knows
-//! nothing of series, rows or calendars. Read `specs/Record.antt`, `specs/Journal.antt`, then `journal.rt`.
+//! nothing of series, rows or calendars. Read `specs/Journal.antt`, then `journal.rt`.
 #![tactic(auto)]
 
 mod batch;

@@ -2,7 +2,7 @@
 ghost use Rattle.std.specs.Prelude.{◌≡◌, ◌+◌, ◌≤◌, ◌<◌, ◌^◌, [], Some, None, if◌then◌else◌, length, OnOk, OnErr, IsOk};
 ghost use Rattle.std.specs.Prelude.{slice_index_or};
 ghost use Rattle.ts_journal.specs.declared.batch.Change.TheVariants.{Free};
-ghost use Rattle.ts_journal.specs.Entry.{Entry, IsRising, IsBatch, change_of, put};
+ghost use Rattle.ts_journal.specs.Journal.{Entry, IsRising, IsBatch, change_of, put};
 
 use std::alloc::{AllocError, Global};
 use std::marker::Model;
@@ -15,7 +15,7 @@ pub(crate) struct Numbers {
 
 impl Model for Numbers {
     ghost use Rattle.std.specs.Prelude.{◌-◌, ◌^◌, map, vec_len, vec_capacity};
-    ghost use Rattle.ts_journal.specs.Entry.{IsRising};
+    ghost use Rattle.ts_journal.specs.Journal.{IsRising};
     ghost use Rattle.ts_journal.specs.Stored.{Listed, freed};
 
     ghost Value = { Listed };

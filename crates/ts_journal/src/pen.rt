@@ -19,7 +19,7 @@ pub(crate) struct Pen {
 
 impl Pen {
     ghost use Rattle.std.specs.Prelude.{◌≡◌, ◌+◌, ◌++◌, [], length, OnOk};
-    ghost use Rattle.ts_page.specs.Volume.{page_size};
+    ghost use Rattle.ts_page.specs.Pages.{page_size};
     ghost use Rattle.ts_journal.specs.Pen.{pending, Adds, Moves};
 
     pub(crate) fn new() -> Pen

@@ -1,6 +1,6 @@
 // A record of four images and of pages that are freed: committed, read again and brought home.
 ghost use Rattle.std.specs.Prelude.{◌<◌, ◌≢◌, [], IfOk};
-ghost use Rattle.ts_journal.specs.Entry.{AreAllowed};
+ghost use Rattle.ts_journal.specs.Journal.{AreAllowed};
 
 use crate::volumes::{blank, commit_there, read_there, settle_there};
 use std::alloc::{AllocError, Global};

@@ -1,7 +1,7 @@
 // Volumes in memory, and what is done with their journal.
 ghost use Rattle.std.specs.Prelude.{◌≡◌, ◌*◌, ◌≢◌, [], IfOk, IsTrue, length};
 ghost use Rattle.ts_disk.specs.Device.{Only};
-ghost use Rattle.ts_journal.specs.Entry.{AreAllowed};
+ghost use Rattle.ts_journal.specs.Journal.{AreAllowed};
 
 use std::alloc::{AllocError, Global};
 use ts_disk::{MemorySite, Pick, Volume};

@@ -4,17 +4,15 @@ use Rattle.std.specs.Option.{option_map}
 use Rattle.std.specs.Int.{w64, from_be_bytes, cast_signed}
 use Rattle.ts_base.specs.declared.unit.Unit.TheVariants as units
 use Rattle.ts_base.specs.Moment.{IsStamp}
-use Rattle.ts_pattern.specs.Runs.{is_pattern}
-use Rattle.ts_pattern.specs.Plan.{Plan}
-use Rattle.ts_calendar.specs.Plan.{CalendarPlan}
-use Rattle.ts_cells.specs.Cell.{stamp_bytes}
+use Rattle.ts_pattern.specs.Patterns.{is_pattern, Plan}
+use Rattle.ts_calendar.specs.Calendars.{CalendarPlan}
+use Rattle.ts_cells.specs.IrregularPage.{stamp_bytes}
 use Rattle.ts_cells.proofs.CellLemmas.{units_back}
 use Rattle.ts_model.specs.declared.def.Def.{Def}
 use Rattle.ts_model.specs.declared.def.Def.TheVariants as defs
 use Rattle.ts_model.specs.Definitions.{PatternDef, CalendarDef, at_slot, name_of, references}
 use Rattle.ts_layout.specs.Slot.{padded, part_bytes, pattern_bytes, calendar_bytes}
-use Rattle.ts_layout.specs.Limits.{IsPatternDef, IsCalendarDef}
-use Rattle.ts_layout.specs.Meaning.{Follows}
+use Rattle.ts_layout.specs.Meaning.{IsPatternDef, IsCalendarDef, Follows}
 use Rattle.ts_layout.proofs.FieldLemmas.{length-name, name_one, pattern_name, calendar_name, calendar_start, calendar_patt_start, calendar_part}
 use Rattle.ts_layout.proofs.PlanBytesLemmas.{plan_one, behind_pattern, part_named, part_slot, part_own, part_plan}
 

@@ -8,17 +8,15 @@ use Rattle.std.proofs.lemmas.List.Elements.{All-nil, All-cons, All-append, All-w
 use Rattle.std.proofs.lemmas.List.Sorted.{All-permutation, IsPermutation-sym, length_permutation}
 use Rattle.std.specs.Ordering.{int_cmp}
 use Rattle.std.specs.FinMap.{len, len-empty}
-use Rattle.ts_row.specs.Row.{Row}
-use Rattle.ts_row.specs.Element.{Element}
-use Rattle.ts_row.specs.RowType.{Heading}
+use Rattle.ts_row.specs.Row.{Row, Element, Heading}
 use Rattle.ts_space.specs.declared.place.Place.{Place}
 use Rattle.ts_space.specs.Place.{count_of}
 use Rattle.ts_space.specs.Charge.{irregular_charge, irregular_places_charge}
 use Rattle.ts_space.specs.Directory.{Directory, places_of}
 use Rattle.ts_offset.specs.declared.shape.Shape.TheVariants.{Irregular}
-use Rattle.ts_cells.specs.Cell.{page_room}
-use Rattle.ts_page.specs.Volume.{first_element_page}
-use Rattle.ts_sheets.specs.Chain.{all_in}
+use Rattle.ts_cells.specs.IrregularPage.{page_room}
+use Rattle.ts_page.specs.Pages.{first_element_page}
+use Rattle.ts_sheets.specs.Stamped.{all_in}
 use Rattle.ts_sheets.proofs.OrderLemmas.{sized_pages}
 use Rattle.ts_sheets.proofs.DenseLemmas.{within_charge}
 use Rattle.ts_layout.specs.Sheets.{Sheet, elements_in, place_of_sheet}

@@ -6,13 +6,13 @@ use Rattle.std.specs.Option.{IfSome, option_map, option_and_then}
 use Rattle.std.specs.FinMap.{insert, remove}
 use Rattle.std.proofs.lemmas.Bool.{cases_eq}
 use Rattle.std.proofs.lemmas.List.Sums.{sum_by-set}
-use Rattle.ts_cells.specs.Cell.{page_room}
-use Rattle.ts_calendar.specs.Calendar.{IsValid}
+use Rattle.ts_cells.specs.IrregularPage.{page_room}
+use Rattle.ts_calendar.specs.Calendars.{IsValid}
 use Rattle.ts_model.specs.declared.kind.Kind.{Kind}
 use Rattle.ts_model.specs.declared.kind.Kind.TheVariants as kinds
 use Rattle.ts_model.specs.declared.def.Def.{Def}
 use Rattle.ts_model.specs.declared.def.Def.TheVariants as defs
-use Rattle.ts_model.specs.Kinds.{HasNoPages, with_named, without}
+use Rattle.ts_model.specs.Catalogue.{HasNoPages, with_named, without}
 use Rattle.ts_model.specs.Definitions.{Definitions, RowTypeDef, PatternDef, CalendarDef, ContainerDef, SeriesDef, KindDef, of_calendar, of_series, calendar_reference, kind_of, to_def, from_def, table_of, name_of, name_in, limit, slots, slot_of, at_slot, with_slot, with_table, by_name, references, Refers, IsUsed, IsTable, IsFormat, IsDefinitions}
 use Rattle.ts_model.proofs.PartsLemmas.{forth, table-here, table-other, same_or_other, table-rules, all-rules, format-stays}
 use Rattle.ts_model.proofs.SlotLemmas.{by_name-clear}

@@ -3,15 +3,14 @@ use Rattle.std.proofs.Common.{◌≡◌, ℕ, zero, suc, ◌+◌, ◌*◌, ◌/�
 use Rattle.std.specs.Option.{option_map, option_and_then}
 use Rattle.std.proofs.lemmas.Bool.Decides.{nat_tests}
 use Rattle.std.proofs.Math.Nat.{le-div_iff_mul-le}
-use Rattle.ts_row.specs.RowType.{Heading, is_row_type, width_of}
+use Rattle.ts_row.specs.Row.{Heading, is_row_type, width_of}
 use Rattle.ts_space.specs.Directory.{Directory}
-use Rattle.ts_cells.specs.Cell.{page_room}
+use Rattle.ts_cells.specs.IrregularPage.{page_room}
 use Rattle.ts_model.specs.declared.kind.Kind.TheVariants as kinds
 use Rattle.ts_model.specs.declared.def.Def.{Def}
 use Rattle.ts_model.specs.declared.def.Def.TheVariants as defs
 use Rattle.ts_model.specs.Definitions.{Definitions, RowTypeDef, ContainerDef, SeriesDef, at_slot, of_row_type, of_container}
-use Rattle.ts_layout.specs.Limits.{IsSlotOf}
-use Rattle.ts_layout.specs.Meaning.{def_at, KeepLimits, heading_of_container, heading_in}
+use Rattle.ts_layout.specs.Meaning.{IsSlotOf, def_at, KeepLimits, heading_of_container, heading_in}
 use Rattle.ts_layout.specs.Charges.{charge_listed, charges_listed, container_charge, KeepsQuotaAt}
 use Rattle.ts_layout.proofs.PlaceLemmas.{at_slot-map}
 use Rattle.ts_layout.proofs.SlotLemmas.{own}

@@ -7,9 +7,9 @@ use Rattle.ts_base.specs.Name.{is_name}
 use Rattle.ts_row.specs.declared.kind.ColumnKind.{ColumnKind}
 use Rattle.ts_row.specs.declared.kind.ColumnKind.TheVariants.{SmallInt, Integer, BigInt, Decimal, VarChar}
 use Rattle.ts_row.specs.declared.kind.Column.{Column}
-use Rattle.ts_row.specs.RowType.{Heading}
+use Rattle.ts_row.specs.Row.{Heading}
 use Rattle.ts_layout.specs.Slot.{kind_bytes, name_bytes, column_bytes, columns_bytes, padded, row_type_bytes}
-use Rattle.ts_layout.specs.Limits.{IsRowTypeDef}
+use Rattle.ts_layout.specs.Meaning.{IsRowTypeDef}
 use Rattle.ts_layout.proofs.FieldLemmas.{length-name_bytes, length-name, row_type_columns}
 
 -- each column has 36 bytes

@@ -6,10 +6,10 @@ use Rattle.std.proofs.lemmas.List.{get_or-append-add, take_at, drop_at, drop-dro
 use Rattle.std.proofs.lemmas.Nat.{from_be_bytes-to_be_bytes_4}
 use Rattle.std.proofs.Math.Seq.{take-append_seam}
 use Rattle.ts_base.specs.Name.{is_name}
-use Rattle.ts_row.specs.RowType.{Heading}
-use Rattle.ts_pattern.specs.Plan.{Plan}
-use Rattle.ts_calendar.specs.Plan.{CalendarPlan}
-use Rattle.ts_cells.specs.Cell.{stamp_bytes}
+use Rattle.ts_row.specs.Row.{Heading}
+use Rattle.ts_pattern.specs.Patterns.{Plan}
+use Rattle.ts_calendar.specs.Calendars.{CalendarPlan}
+use Rattle.ts_cells.specs.IrregularPage.{stamp_bytes}
 use Rattle.ts_layout.specs.Slot.{padded, name_bytes, columns_bytes, row_type_bytes, plan_bytes, pattern_bytes, part_bytes, calendar_bytes, container_bytes, series_code, regular_bytes, series_bytes, header_bytes}
 
 -- a name has at most 32 bytes

@@ -5,16 +5,13 @@ use Rattle.std.specs.Cmp.{int_cmp_total}
 use Rattle.std.specs.FinMap.{find, get, get-from_entries}
 use Rattle.std.proofs.lemmas.Bool.Decides.{nat_tests}
 use Rattle.std.proofs.lemmas.Bool.{cases_eq}
-use Rattle.ts_row.specs.RowType.{Heading, has_long_decimal}
-use Rattle.ts_row.specs.Row.{Row}
-use Rattle.ts_row.specs.Element.{Element, has_hidden}
+use Rattle.ts_row.specs.Row.{Heading, has_long_decimal, Row, Element, has_hidden}
 use Rattle.ts_model.specs.declared.kind.Kind.TheVariants as kinds
 use Rattle.ts_model.specs.declared.def.Def.{Def}
 use Rattle.ts_model.specs.Catalogue.{Series, Catalogue, old_format}
 use Rattle.ts_model.specs.Format.{KeepsFormat}
 use Rattle.ts_model.specs.Definitions.{RowTypeDef}
-use Rattle.ts_layout.specs.Limits.{IsSlotOf}
-use Rattle.ts_layout.specs.Meaning.{Layout, ElementPage, Free, Cells, element_page, elements_on, elements_of, IsSound, Means, catalogue_of}
+use Rattle.ts_layout.specs.Meaning.{IsSlotOf, Layout, ElementPage, Free, Cells, element_page, elements_on, elements_of, IsSound, Means, catalogue_of}
 use Rattle.ts_layout.specs.Sheets.{Sheet}
 use Rattle.ts_layout.specs.Chains.{AreFilled}
 use Rattle.ts_layout.proofs.LayoutLemmas.{within_table}

@@ -1,11 +1,8 @@
 -- Layouts in another format.
 use Rattle.std.proofs.Common.{◌≡◌, ◌≢◌, ℕ, ℤ, ◌+◌, ◌≤◌, true, false, Bool, Option, Some, None, IsSome, List, [], ◌∷◌, length, drop, refl, sym, ap, subst, ◌∙◌, arith, inr}
-use Rattle.ts_row.specs.RowType.{Heading, has_long_decimal}
+use Rattle.ts_row.specs.Row.{Heading, has_long_decimal, Element, has_hidden}
 use Rattle.std.specs.Option.{option_and_then}
-use Rattle.ts_row.specs.Element.{Element, has_hidden}
-use Rattle.ts_page.specs.Head.{bytes_at}
-use Rattle.ts_page.specs.Pages.{EqualPages, with_page}
-use Rattle.ts_page.specs.Volume.{first_element_page}
+use Rattle.ts_page.specs.Pages.{bytes_at, EqualPages, with_page, first_element_page}
 use Rattle.ts_space.specs.Directory.{Directory}
 use Rattle.ts_offset.specs.declared.shape.Shape.{Shape}
 use Rattle.ts_model.specs.Catalogue.{old_format, newest_format}
@@ -15,8 +12,7 @@ use Rattle.ts_model.specs.declared.def.Def.{Def}
 use Rattle.ts_model.specs.declared.def.Def.TheVariants as defs
 use Rattle.ts_model.specs.Definitions.{Definitions, SeriesDef, at_slot, with_format, references, IsDefinitions}
 use Rattle.ts_layout.specs.Slot.{header_bytes, slot_size, slot_bytes, page_of_slot, byte_of_slot, slots_in_page, bytes_of_slots}
-use Rattle.ts_layout.specs.Limits.{IsOfFormat, AreOfFormat, IsDef, IsSlotOf}
-use Rattle.ts_layout.specs.Meaning.{Layout, ElementPage, Free, Cells, element_page, def_at, heading_at, shape_of, shape_at, HoldsElements, HoldsLayout, KeepLimits, IsThere, AreSound, IsSound}
+use Rattle.ts_layout.specs.Meaning.{IsOfFormat, AreOfFormat, IsDef, IsSlotOf, Layout, ElementPage, Free, Cells, element_page, def_at, heading_at, shape_of, shape_at, HoldsElements, HoldsLayout, KeepLimits, IsThere, AreSound, IsSound}
 use Rattle.ts_layout.specs.Sheets.{Sheet, HoldsSheet}
 use Rattle.ts_layout.specs.Changed.{layout_in}
 use Rattle.ts_layout.specs.Chains.{AreFilled}

@@ -6,18 +6,15 @@ use Rattle.std.specs.Option.{option_map}
 use Rattle.std.specs.List.{cons_option}
 use Rattle.std.proofs.lemmas.Int.{ints}
 use Rattle.std.proofs.lemmas.List.Elements.{All-nil, All-head, All-tail, All-append, filter_map-append}
-use Rattle.ts_row.specs.Element.{Element}
+use Rattle.ts_row.specs.Row.{Element}
 use Rattle.ts_row.specs.declared.kind.Column.{Column}
 use Rattle.ts_space.specs.Charge.{regular_charge}
 use Rattle.ts_space.proofs.PlaceLemmas.{int_lt_yes, int_lt_no}
-use Rattle.ts_calendar.specs.Intervals.{IsLaid}
-use Rattle.ts_offset.specs.Walk.{on_starts}
-use Rattle.ts_offset.specs.Grid.{GridPlan, starts_before, starts_of, stamp_of}
+use Rattle.ts_calendar.specs.Calendars.{IsLaid}
+use Rattle.ts_offset.specs.Grid.{on_starts, GridPlan, starts_before, starts_of, stamp_of}
 use Rattle.ts_offset.specs.declared.shape.Shape.TheVariants.{Regular}
 use Rattle.ts_cells.specs.IrregularPage as stamps
-use Rattle.ts_regular.specs.Cell.{regular_room}
-use Rattle.ts_regular.specs.Offsets.{OffsetElement, AreRising, elements_from}
-use Rattle.ts_regular.specs.RegularPage.{FillPage}
+use Rattle.ts_regular.specs.RegularPage.{regular_room, OffsetElement, AreRising, elements_from, FillPage}
 use Rattle.ts_regular.specs.Places.{OffsetPage, all_in}
 use Rattle.ts_regular.proofs.OffsetLemmas.{AreMore, more_both}
 use Rattle.ts_regular.proofs.CellsLemmas.{count_in, count_within, more_cells, rising_cells}

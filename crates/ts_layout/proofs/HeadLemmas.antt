@@ -2,11 +2,9 @@
 use Rattle.std.proofs.Common.{◌≡◌, ℕ, ◌<◌, ◌^◌, Some, List, length, ap, ◌∙◌, arith, ◌==◌, true, get_or, refl}
 use Rattle.std.proofs.lemmas.Bool.Decides.{nat_tests}
 use Rattle.ts_row.specs.declared.kind.Column.{Column}
-use Rattle.ts_page.specs.Head.{head_of}
-use Rattle.ts_page.specs.Pages.{IsFreePage}
+use Rattle.ts_page.specs.Pages.{head_of, IsFreePage}
 use Rattle.ts_page.specs.declared.page.Head.TheVariants as heads
-use Rattle.ts_cells.specs.Cell.{Element}
-use Rattle.ts_cells.specs.IrregularPage.{IsIrregularPage}
+use Rattle.ts_cells.specs.IrregularPage.{Element, IsIrregularPage}
 use Rattle.ts_cells.proofs.HeadLemmas.{irregular_head, few_fit}
 
 -- the head of an irregular page

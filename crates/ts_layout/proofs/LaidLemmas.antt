@@ -4,18 +4,16 @@ use Rattle.std.specs.Prelude.{nat_lt}
 use Rattle.std.specs.Option.{option_map}
 use Rattle.std.proofs.lemmas.Bool.Decides.{nat_tests}
 use Rattle.ts_base.specs.declared.refusal.Refusal.{Refusal}
-use Rattle.ts_base.specs.Months.{day_of_month}
-use Rattle.ts_pattern.specs.Units.{is_monthly}
-use Rattle.ts_calendar.specs.Calendar.{is_late, valid_calendar}
-use Rattle.ts_calendar.specs.Intervals.{IsLaid}
+use Rattle.ts_base.specs.Moment.{day_of_month}
+use Rattle.ts_pattern.specs.Patterns.{is_monthly}
+use Rattle.ts_calendar.specs.Calendars.{is_late, valid_calendar, IsLaid}
 use Rattle.ts_offset.specs.Grid.{GridPlan}
 use Rattle.ts_offset.specs.declared.shape.Shape.{Shape}
 use Rattle.ts_offset.specs.declared.shape.Shape.TheVariants.{Irregular, Regular}
 use Rattle.ts_model.specs.declared.kind.Kind.TheVariants as kinds
 use Rattle.ts_model.specs.declared.def.Def.{Def}
 use Rattle.ts_model.specs.Definitions.{Definitions, CalendarDef, SeriesDef, at_slot, of_calendar, IsDefinitions}
-use Rattle.ts_layout.specs.Limits.{IsSlotOf}
-use Rattle.ts_layout.specs.Meaning.{def_at, grid_in, shape_of, shape_at, KeepLimits, AreValid, AreSound}
+use Rattle.ts_layout.specs.Meaning.{IsSlotOf, def_at, grid_in, shape_of, shape_at, KeepLimits, AreValid, AreSound}
 use Rattle.ts_layout.proofs.PlaceLemmas.{at_slot-map}
 use Rattle.ts_layout.proofs.OptionLemmas.{chained, mapped, within_table}
 use Rattle.ts_layout.proofs.SheetLemmas.{IsLaidOn}

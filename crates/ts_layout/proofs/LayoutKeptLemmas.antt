@@ -9,11 +9,10 @@ use Rattle.ts_row.specs.declared.kind.Column.{Column}
 use Rattle.ts_space.specs.declared.place.Place.{Place}
 use Rattle.ts_space.specs.Place.{pages_of}
 use Rattle.ts_space.specs.Directory.{Directory, places_of}
-use Rattle.ts_cells.specs.Cell.{page_room}
-use Rattle.ts_row.specs.Element.{Element}
-use Rattle.ts_page.specs.Volume.{first_element_page}
-use Rattle.ts_regular.specs.Offsets.{elements_from}
-use Rattle.ts_regular.specs.RegularPage.{filled_count}
+use Rattle.ts_cells.specs.IrregularPage.{page_room}
+use Rattle.ts_row.specs.Row.{Element}
+use Rattle.ts_page.specs.Pages.{first_element_page}
+use Rattle.ts_regular.specs.RegularPage.{elements_from, filled_count}
 use Rattle.ts_regular.proofs.CellsLemmas.{count_in, count_within}
 use Rattle.ts_offset.specs.declared.shape.Shape.{Shape}
 use Rattle.ts_offset.specs.declared.shape.Shape.TheVariants.{Irregular, Regular}

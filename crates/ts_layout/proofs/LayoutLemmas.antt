@@ -2,23 +2,20 @@
 use Rattle.std.proofs.Common.{◌≡◌, ◌≢◌, ℕ, suc, ◌+◌, ◌<◌, ◌≤◌, true, Option, Some, None, List, [], ◌∷◌, length, drop, refl, sym, ap, subst, ◌∙◌, arith, inl, inr, ◌⊎◌}
 use Rattle.std.specs.Option.{option_map}
 use Rattle.std.proofs.lemmas.Bool.Decides.{nat_tests}
-use Rattle.ts_row.specs.RowType.{Heading, is_row_type}
+use Rattle.ts_row.specs.Row.{Heading, is_row_type}
 use Rattle.ts_row.specs.declared.kind.Column.{Column}
 use Rattle.ts_row.proofs.RowBytesLemmas.{valid}
-use Rattle.ts_page.specs.Head.{bytes_at, head_of}
-use Rattle.ts_page.specs.Pages.{IsFreePage, IsElementPage, HasFreeHead, EqualPages, with_page}
+use Rattle.ts_page.specs.Pages.{bytes_at, head_of, IsFreePage, IsElementPage, HasFreeHead, EqualPages, with_page, first_element_page}
 use Rattle.ts_page.proofs.PagesLemmas.{free_headed, with_other}
-use Rattle.ts_page.specs.Volume.{first_element_page}
 use Rattle.ts_offset.specs.declared.shape.Shape.{Shape}
 use Rattle.ts_model.specs.declared.kind.Kind.{Kind}
 use Rattle.ts_model.specs.declared.kind.Kind.TheVariants as kinds
 use Rattle.ts_model.specs.declared.def.Def.{Def}
 use Rattle.ts_model.specs.Catalogue.{Catalogue}
 use Rattle.ts_model.specs.Definitions.{Definitions, RowTypeDef, ContainerDef, SeriesDef, of_row_type, of_series, at_slot, limit, IsDefinitions}
-use Rattle.ts_layout.specs.Limits.{IsSlotOf, AreOfFormat}
+use Rattle.ts_layout.specs.Meaning.{IsSlotOf, AreOfFormat, Layout, ElementPage, Free, Cells, element_page, def_at, heading_of_container, heading_in, heading_at, shape_at, HoldsDefinitions, HoldsSeries, HoldsElements, HoldsLayout, KeepLimits, IsLaidOut, Means, catalogue_of}
 use Rattle.ts_layout.specs.Sheets.{Sheet, HoldsSheet}
 use Rattle.ts_layout.specs.Slot.{slot_size, page_of_slot, byte_of_slot, slots_in_page, bytes_of_slots, header_bytes}
-use Rattle.ts_layout.specs.Meaning.{Layout, ElementPage, Free, Cells, element_page, def_at, heading_of_container, heading_in, heading_at, shape_at, HoldsDefinitions, HoldsSeries, HoldsElements, HoldsLayout, KeepLimits, IsLaidOut, Means, catalogue_of}
 use Rattle.ts_layout.specs.Changed.{SameOutsideJournal, KeepsElements, HasNoPage}
 pub use Rattle.ts_layout.proofs.OptionLemmas.{none≢some, one_of, chained, mapped, within_table}
 use Rattle.ts_layout.proofs.ElementPageLemmas.{within_list}

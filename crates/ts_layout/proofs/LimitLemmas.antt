@@ -4,17 +4,16 @@ use Rattle.std.specs.Option.{option_map, option_and_then}
 use Rattle.std.proofs.lemmas.Bool.Decides.{nat_tests}
 use Rattle.std.proofs.lemmas.List.{get_or_past}
 use Rattle.ts_base.specs.Name.{is_key}
-use Rattle.ts_row.specs.RowType.{Heading}
-use Rattle.ts_pattern.specs.Plan.{Plan}
-use Rattle.ts_calendar.specs.Plan.{CalendarPlan}
+use Rattle.ts_row.specs.Row.{Heading}
+use Rattle.ts_pattern.specs.Patterns.{Plan}
+use Rattle.ts_calendar.specs.Calendars.{CalendarPlan}
 use Rattle.ts_model.specs.declared.def.Def.{Def}
 use Rattle.ts_model.specs.declared.kind.Kind.{Kind}
 use Rattle.ts_model.specs.Definitions.{kind_of, to_def, from_def, Definitions, KindDef, SeriesDef, IsDefinitions}
 use Rattle.ts_model.proofs.PartsLemmas.{back}
 use Rattle.ts_model.specs.declared.kind.Kind.TheVariants as kinds
 use Rattle.ts_model.specs.declared.def.Def.TheVariants as defs
-use Rattle.ts_layout.specs.Limits.{IsRowTypeDef, IsPatternDef, IsCalendarDef, IsDef, IsContainerDef, IsRegularPart, IsSeriesDef, IsSlotOf}
-use Rattle.ts_layout.specs.Meaning.{def_at, KeepLimits, heading_in, heading_at, shape_of, shape_at}
+use Rattle.ts_layout.specs.Meaning.{IsRowTypeDef, IsPatternDef, IsCalendarDef, IsDef, IsContainerDef, IsRegularPart, IsSeriesDef, IsSlotOf, def_at, KeepLimits, heading_in, heading_at, shape_of, shape_at}
 
 -- a key has at most 64 bytes
 pub length-key : (key : List ℕ) → IsTrue (is_key key) → length key ≤ 64

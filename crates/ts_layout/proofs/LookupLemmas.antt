@@ -7,19 +7,17 @@ use Rattle.std.proofs.lemmas.List.Quantifiers.{position-Some}
 use Rattle.std.specs.Option.{IfSome, is_none, option_map, option_and_then, unwrap_or}
 use Rattle.std.specs.FinMap.{get, entries, values, len}
 use Rattle.std.specs.Str.{bytes_eq}
-use Rattle.ts_pattern.specs.Plan.{Plan}
-use Rattle.ts_calendar.specs.Plan.{CalendarPlan}
+use Rattle.ts_pattern.specs.Patterns.{Plan}
+use Rattle.ts_calendar.specs.Calendars.{CalendarPlan}
 use Rattle.ts_calendar.specs.declared.text.PatternPart.TheVariants.{Named as ByName}
 use Rattle.ts_calendar.specs.declared.text.CalendarText.{CalendarText}
-use Rattle.ts_offset.specs.Grid.{GridPlan}
-use Rattle.ts_offset.specs.Walk.{IsOnStart}
+use Rattle.ts_offset.specs.Grid.{GridPlan, IsOnStart}
 use Rattle.ts_offset.specs.declared.shape.Shape.{Shape}
 use Rattle.ts_offset.specs.declared.shape.Shape.TheVariants as shapes
 use Rattle.ts_model.specs.declared.kind.Kind.{Kind}
 use Rattle.ts_model.specs.declared.kind.Kind.TheVariants as kinds
 use Rattle.ts_model.specs.declared.def.Def.{Def}
-use Rattle.ts_model.specs.Catalogue.{Named, Container, Regular, name_cmp, heading_of, quotas, pattern_of, with_plan, calendar_of, shape_of as shape_named}
-use Rattle.ts_model.specs.Kinds.{In, named, is_named, is_on_calendar, is_used}
+use Rattle.ts_model.specs.Catalogue.{Named, Container, Regular, name_cmp, heading_of, quotas, pattern_of, with_plan, calendar_of, shape_of as shape_named, In, named, is_named, is_on_calendar, is_used}
 use Rattle.ts_model.specs.Definitions.{Definitions, RowTypeDef, PatternDef, CalendarDef, ContainerDef, SeriesDef, KindDef, to_def, table_of, name_in, slots, slot_of, vacant_slot, at_slot, limit, references, pattern_reference, calendar_reference, Refers, IsUsed}
 use Rattle.ts_model.proofs.OrderLemmas.{eq_ties, ties-refl, ties-same}
 use Rattle.ts_model.proofs.PartsLemmas.{table-rules}

@@ -12,11 +12,11 @@ use Rattle.std.specs.declared.cmp.Ordering.TheVariants.{Less, Equal, Greater}
 use Rattle.std.specs.FinMap.{FinMap, find, put, get, entries, insert, remove, from_entries, same_map, get-insert, get-remove, entries-insert, get-entries, get-from_entries, len-entries, len-empty}
 use Rattle.std.specs.FinMap as finmap
 use Rattle.std.specs.FinMap.Entries.{by_order}
-use Rattle.ts_row.specs.RowType.{Heading}
-use Rattle.ts_cells.specs.Cell.{page_room}
+use Rattle.ts_row.specs.Row.{Heading}
+use Rattle.ts_cells.specs.IrregularPage.{page_room}
 use Rattle.ts_row.specs.declared.kind.Column.{Column}
-use Rattle.ts_pattern.specs.Plan.{Plan}
-use Rattle.ts_calendar.specs.Plan.{CalendarPlan}
+use Rattle.ts_pattern.specs.Patterns.{Plan}
+use Rattle.ts_calendar.specs.Calendars.{CalendarPlan}
 use Rattle.ts_offset.specs.Grid.{GridPlan}
 use Rattle.ts_offset.specs.declared.shape.Shape.{Shape}
 use Rattle.ts_offset.specs.declared.shape.Shape.TheVariants.{Irregular, Regular}

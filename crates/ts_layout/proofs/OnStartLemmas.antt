@@ -3,9 +3,8 @@ use Rattle.std.specs.Prelude.{All}
 use Rattle.std.proofs.Common.{◌≡◌, ℕ, ℤ, Some, List, [], ◌∷◌, sym, subst, ◌∙◌}
 use Rattle.std.proofs.lemmas.List.Elements.{All-nil, All-append, All-head, All-tail}
 use Rattle.std.specs.FinMap.{get}
-use Rattle.ts_row.specs.Row.{Row}
-use Rattle.ts_row.specs.Element.{Element}
-use Rattle.ts_regular.specs.Offsets.{elements_from}
+use Rattle.ts_row.specs.Row.{Row, Element}
+use Rattle.ts_regular.specs.RegularPage.{elements_from}
 use Rattle.ts_offset.specs.Grid.{GridPlan, stamp_of}
 use Rattle.ts_offset.specs.declared.shape.Shape.{Shape}
 use Rattle.ts_offset.specs.declared.shape.Shape.TheVariants.{Regular}

@@ -6,17 +6,13 @@ use Rattle.ts_row.specs.Encoding.{row_bytes}
 use Rattle.ts_row.specs.Decoding.{row_in}
 use Rattle.ts_row.specs.declared.kind.Column.{Column}
 use Rattle.ts_row.proofs.RowBytesLemmas.{valid, row_in-row_bytes}
-use Rattle.ts_page.specs.Head.{head_of}
-use Rattle.ts_page.specs.Pages.{IsFreePage}
+use Rattle.ts_page.specs.Pages.{head_of, IsFreePage}
 use Rattle.ts_page.specs.declared.page.Head.{Head}
 use Rattle.ts_page.specs.declared.page.Head.TheVariants as heads
-use Rattle.ts_cells.specs.Cell.{Element, cell_size}
-use Rattle.ts_cells.specs.IrregularPage.{IsIrregularPage, cells_bytes, behind_head, first_stamp}
+use Rattle.ts_cells.specs.IrregularPage.{Element, cell_size, IsIrregularPage, cells_bytes, behind_head, first_stamp}
 use Rattle.ts_cells.proofs.HeadLemmas.{irregular_behind, front_cells}
 use Rattle.ts_cells.proofs.PageLemmas.{same_cells}
-use Rattle.ts_regular.specs.Cell.{Cell, FitsCell, regular_room, cell_size as grid_cell_size, cell_bytes as grid_cell_bytes}
-use Rattle.ts_regular.specs.Offsets.{elements_from}
-use Rattle.ts_regular.specs.RegularPage.{AreCells, filled_count, IsRegularPage, cells_bytes as grid_cells_bytes, behind_head as behind_grid_head}
+use Rattle.ts_regular.specs.RegularPage.{Cell, FitsCell, regular_room, cell_size as grid_cell_size, cell_bytes as grid_cell_bytes, elements_from, AreCells, filled_count, IsRegularPage, cells_bytes as grid_cells_bytes, behind_head as behind_grid_head}
 use Rattle.ts_regular.proofs.BytesLemmas.{length-cell}
 use Rattle.ts_regular.proofs.HeadLemmas.{head_told, behind_told, front_cells as front_grid_cells}
 use Rattle.ts_sheets.specs.Stamped.{stamped}

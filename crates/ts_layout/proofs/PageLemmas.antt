@@ -2,7 +2,7 @@
 use Rattle.std.proofs.Common.{◌≡◌, ◌≢◌, ℕ, zero, suc, ◌+◌, ◌<◌, ◌==◌, Bool, true, false, if◌then◌else◌, Option, Some, None, List, [], ◌∷◌, map, length, set, refl, sym, ap, subst, ◌∙◌, arith, get_or-set_same, get_or-set_other, inl, inr, ◌⊎◌}
 use Rattle.std.proofs.lemmas.Bool.Decides.{nat_tests}
 use Rattle.std.proofs.lemmas.Bool.{cases_eq}
-use Rattle.ts_page.specs.Volume.{first_element_page}
+use Rattle.ts_page.specs.Pages.{first_element_page}
 use Rattle.ts_model.specs.Definitions.{SeriesDef, at_slot}
 use Rattle.ts_layout.specs.Meaning.{ElementPage, Free, Cells, Layout, element_page, HoldsElements, HoldsLayout, sum_filled}
 use Rattle.ts_layout.specs.Sheets.{Sheet}

@@ -9,8 +9,8 @@ use Rattle.std.proofs.lemmas.List.Elements.{All-nil, All-cons, All-append, All-m
 use Rattle.std.proofs.lemmas.List.Sorted.{IsPermutation-refl, IsPermutation-sym, IsPermutation-trans, IsPermutation-cons, IsPermutation-middle, IsPermutation-append_right, IsPermutation-map}
 use Rattle.ts_space.specs.declared.place.Place.{Place}
 use Rattle.ts_space.specs.Place.{pages_of}
-use Rattle.ts_row.specs.Element.{Element}
-use Rattle.ts_page.specs.Volume.{first_element_page}
+use Rattle.ts_row.specs.Row.{Element}
+use Rattle.ts_page.specs.Pages.{first_element_page}
 use Rattle.ts_layout.specs.Sheets.{Sheet, elements_in, place_of_sheet}
 use Rattle.ts_layout.specs.Meaning.{ElementPage, Free, Cells, element_page, elements_on, elements_of, sheets_on, sheets_of}
 use Rattle.ts_layout.specs.Surveyed.{places_on, places_from, free_from, IsListOf}

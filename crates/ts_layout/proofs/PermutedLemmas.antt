@@ -9,8 +9,8 @@ use Rattle.std.proofs.lemmas.List.Edits.{length-swap, swap_is, swapped_from_swap
 use Rattle.std.proofs.lemmas.List.Elements.{All-append, All-contains, Contains-get_or}
 use Rattle.std.proofs.lemmas.List.Kept.{AllPairs-cons}
 use Rattle.std.proofs.lemmas.List.Sorted.{IsPermutation-refl, IsPermutation-trans, IsPermutation-append_left, IsPermutation-append_right, IsPermutation-append_comm, IsPermutation-keeps}
-use Rattle.ts_row.specs.Element.{Element}
-use Rattle.ts_sheets.specs.Chain.{all_in}
+use Rattle.ts_row.specs.Row.{Element}
+use Rattle.ts_sheets.specs.Stamped.{all_in}
 
 -- where an element stood before two were exchanged
 abbrev turned : ℕ → ℕ → ℕ → ℕ

@@ -7,16 +7,15 @@ use Rattle.std.proofs.lemmas.List.{length-map, get_or-map}
 use Rattle.std.proofs.lemmas.List.Sums.{sum_by-set}
 use Rattle.std.proofs.lemmas.List.Elements.{All-append, All-map, All-weaker, Contains-get_or, Contains-append_left}
 use Rattle.std.proofs.lemmas.List.Sorted.{All-permutation, Contains-permutation, IsPermutation-sym, IsPermutation-trans, IsPermutation-append_left, IsPermutation-append_right, length_permutation}
-use Rattle.ts_row.specs.RowType.{Heading}
-use Rattle.ts_page.specs.Pages.{Contents, IsElementPage}
+use Rattle.ts_row.specs.Row.{Heading}
+use Rattle.ts_page.specs.Pages.{Contents, IsElementPage, first_element_page}
 use Rattle.ts_space.specs.declared.place.Place.{Place}
 use Rattle.ts_space.specs.Place.{IsRising, pages_of}
 use Rattle.ts_space.specs.Directory.{Directory, places_of, used_of}
-use Rattle.ts_cells.specs.Cell.{page_room}
-use Rattle.ts_page.specs.Volume.{first_element_page}
+use Rattle.ts_cells.specs.IrregularPage.{page_room}
 use Rattle.ts_irregular.specs.OnePage.{IsPlace}
 use Rattle.ts_sheets.specs.Places as chain
-use Rattle.ts_regular.specs.Cell.{regular_room}
+use Rattle.ts_regular.specs.RegularPage.{regular_room}
 use Rattle.ts_regular.specs.Places as regular
 use Rattle.ts_offset.specs.Grid.{GridPlan}
 use Rattle.ts_offset.specs.declared.shape.Shape.{Shape}

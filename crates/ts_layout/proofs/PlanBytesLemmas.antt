@@ -9,13 +9,12 @@ use Rattle.std.proofs.lemmas.Nat.{from_be_bytes-to_be_bytes_2, from_be_bytes-to_
 use Rattle.ts_base.specs.declared.unit.Unit.{Unit}
 use Rattle.ts_base.specs.declared.unit.Unit.TheVariants as units
 use Rattle.ts_pattern.specs.declared.run.Run.{Run}
-use Rattle.ts_pattern.specs.Runs.{run, total, is_pattern}
-use Rattle.ts_pattern.specs.Plan.{Plan}
+use Rattle.ts_pattern.specs.Patterns.{run, total, is_pattern, Plan}
 use Rattle.ts_pattern.proofs.RunLemmas.{total-cons}
 use Rattle.ts_pattern.proofs.PlanLemmas.{tested}
-use Rattle.ts_calendar.specs.Plan.{CalendarPlan}
+use Rattle.ts_calendar.specs.Calendars.{CalendarPlan}
 use Rattle.ts_layout.specs.Slot.{padded, unit_code, run_number, run_bytes, plan_bytes, pattern_bytes, part_bytes, calendar_bytes}
-use Rattle.ts_layout.specs.Limits.{IsPatternDef, IsCalendarDef}
+use Rattle.ts_layout.specs.Meaning.{IsPatternDef, IsCalendarDef}
 use Rattle.ts_layout.proofs.FieldLemmas.{length-name, pattern_plan, calendar_part}
 
 -- the runs of a pattern, one after the other

@@ -4,7 +4,7 @@ use Rattle.std.proofs.Common.{◌≡◌, ℕ, ℤ, zero, suc, ◌<◌, Option, S
 use Rattle.std.specs.Option.{IfSome, option_map, option_and_then}
 use Rattle.std.proofs.lemmas.Bool.{cases_lt}
 use Rattle.std.proofs.lemmas.List.{get_or_past}
-use Rattle.ts_row.specs.RowType.{Heading}
+use Rattle.ts_row.specs.Row.{Heading}
 use Rattle.ts_offset.specs.declared.shape.Shape.{Shape}
 use Rattle.ts_offset.specs.declared.shape.Shape.TheVariants.{Regular}
 use Rattle.ts_model.specs.declared.kind.Kind.{Kind}
@@ -12,8 +12,7 @@ use Rattle.ts_model.specs.declared.kind.Kind.TheVariants as kinds
 use Rattle.ts_model.specs.declared.def.Def.{Def}
 use Rattle.ts_model.specs.Definitions.{Definitions, RowTypeDef, PatternDef, CalendarDef, ContainerDef, SeriesDef, of_row_type, of_pattern, of_calendar, of_container, of_series, kind_of, limit, slots, at_slot, with_slot, references, pattern_reference, calendar_reference, Refers, IsUsed, IsDefinitions}
 use Rattle.ts_model.proofs.PartsLemmas.{format-stays}
-use Rattle.ts_layout.specs.Limits.{IsDef, IsSlotOf}
-use Rattle.ts_layout.specs.Meaning.{def_at, heading_at, shape_of, shape_at, KeepLimits, IsOnCalendar, IsThere, AreThere}
+use Rattle.ts_layout.specs.Meaning.{IsDef, IsSlotOf, def_at, heading_at, shape_of, shape_at, KeepLimits, IsOnCalendar, IsThere, AreThere}
 use Rattle.ts_layout.proofs.PlaceLemmas.{at_slot-map, def_at-with_slot, def_at-cleared, def_at-other}
 use Rattle.ts_layout.proofs.SlotLemmas.{this_or_other, apart_by_rank, own, sizes}
 use Rattle.ts_layout.proofs.LayoutLemmas.{none≢some, one_of, within_table}

@@ -6,23 +6,20 @@ use Rattle.std.proofs.lemmas.Bool.{cases_eq}
 use Rattle.std.proofs.lemmas.List.{append-nil, length-map}
 use Rattle.std.proofs.lemmas.List.Folds.{list_any-append}
 use Rattle.std.proofs.lemmas.List.Sorted.{IsPermutation-refl, IsPermutation-sym, IsPermutation-trans, IsPermutation-cons, IsPermutation-middle, IsPermutation-map, IsPermutation-append_right}
-use Rattle.ts_row.specs.RowType.{Heading}
+use Rattle.ts_row.specs.Row.{Heading, Element, has_hidden}
 use Rattle.ts_row.specs.declared.kind.Column.{Column}
-use Rattle.ts_row.specs.Element.{Element, has_hidden}
-use Rattle.ts_page.specs.Pages.{Contents, IsFreePage}
+use Rattle.ts_page.specs.Pages.{Contents, IsFreePage, first_element_page}
 use Rattle.ts_space.specs.declared.place.Place.{Place}
 use Rattle.ts_space.specs.Place.{pages_of}
 use Rattle.ts_space.specs.Directory.{Directory, places_of}
 use Rattle.ts_space.specs.Charge.{irregular_charge}
-use Rattle.ts_cells.specs.Cell.{page_room}
-use Rattle.ts_page.specs.Volume.{first_element_page}
+use Rattle.ts_cells.specs.IrregularPage.{page_room}
 use Rattle.ts_offset.specs.declared.shape.Shape.{Shape}
 use Rattle.ts_model.specs.Catalogue.{Series, old_format}
 use Rattle.ts_model.specs.Definitions.{SeriesDef, at_slot, by_name}
 use Rattle.ts_layout.specs.Slot.{header_bytes}
-use Rattle.ts_layout.specs.Limits.{AreOfFormat}
+use Rattle.ts_layout.specs.Meaning.{AreOfFormat, ElementPage, Free, Cells, Layout, element_page, elements_of, elements_at, sheets_of, HoldsElements, HoldsLayout, AreSound, IsInSequence, AreAllInSequence, IsSound, heading_at, shape_at, charge_on, charge_of_series, charge_of_container, name_at, kind_in, series_of, catalogue_of}
 use Rattle.ts_layout.specs.Sheets.{Sheet, HoldsSheet, AreSheetsOn, elements_in, place_of_sheet}
-use Rattle.ts_layout.specs.Meaning.{ElementPage, Free, Cells, Layout, element_page, elements_of, elements_at, sheets_of, HoldsElements, HoldsLayout, AreSound, IsInSequence, AreAllInSequence, IsSound, heading_at, shape_at, charge_on, charge_of_series, charge_of_container, name_at, kind_in, series_of, catalogue_of}
 use Rattle.ts_layout.specs.Surveyed.{places_from, free_from, IsListOf, ListsPlaces}
 use Rattle.ts_layout.specs.Chains.{by_stamp, with_elements_at, IsFilledFor, AreFilled, KeepsQuotaOf, freed, with_sheets, rewritten}
 use Rattle.ts_layout.specs.Held.{IsHeldOf, IsRewrittenIn}

@@ -3,8 +3,7 @@ use Rattle.std.specs.Prelude.{All, IsPermutation}
 use Rattle.std.proofs.Common.{◌≡◌, ℕ, Some, List, length, sym, ap, subst, ◌∙◌}
 use Rattle.std.specs.FinMap.{len, len-entries}
 use Rattle.std.proofs.lemmas.List.Sorted.{All-permutation, IsPermutation-sym, length_permutation}
-use Rattle.ts_row.specs.Element.{Element}
-use Rattle.ts_row.specs.RowType.{Heading}
+use Rattle.ts_row.specs.Row.{Element, Heading}
 use Rattle.ts_row.specs.declared.kind.Column.{Column}
 use Rattle.ts_cells.specs.IrregularPage.{AreRising}
 use Rattle.ts_offset.specs.declared.shape.Shape.{Shape}

@@ -5,10 +5,9 @@ use Rattle.std.proofs.Common.{◌≡◌, ℕ, ◌+◌, ◌<◌, Some, List, [], 
 use Rattle.std.proofs.lemmas.List.Elements.{All-head, All-tail}
 use Rattle.std.proofs.lemmas.List.Folds.{list_any-append}
 use Rattle.std.proofs.lemmas.List.Sorted.{IsPermutation-sym, IsPermutation-trans, IsPermutation-map, All-permutation}
-use Rattle.ts_row.specs.Element.{Element}
-use Rattle.ts_row.specs.RowType.{Heading}
+use Rattle.ts_row.specs.Row.{Element, Heading}
 use Rattle.ts_row.specs.declared.kind.Column.{Column}
-use Rattle.ts_page.specs.Volume.{first_element_page}
+use Rattle.ts_page.specs.Pages.{first_element_page}
 use Rattle.ts_space.specs.declared.place.Place.{Place}
 use Rattle.ts_space.specs.Place.{AreAbove, IsRising, count_of}
 use Rattle.ts_space.specs.Directory.{Directory, places_of}
@@ -17,9 +16,8 @@ use Rattle.ts_offset.specs.declared.shape.Shape.{Shape}
 use Rattle.ts_offset.specs.declared.shape.Shape.TheVariants.{Irregular, Regular}
 use Rattle.ts_regular.specs.Places.{OffsetPage, all_in as all_at}
 use Rattle.ts_sheets.specs.Stamped.{stamped}
-use Rattle.ts_layout.specs.Limits.{AreOfFormat}
+use Rattle.ts_layout.specs.Meaning.{AreOfFormat, ElementPage, Cells, Layout, HoldsElements, HoldsLayout, IsSound, heading_at, shape_at, elements_of, sheets_of, elements_at}
 use Rattle.ts_layout.specs.Sheets.{Sheet, FillSheet, HoldsSheet, BeginInOrder, AreInSequence, AreSheetsOn, elements_in, place_of_sheet}
-use Rattle.ts_layout.specs.Meaning.{ElementPage, Cells, Layout, HoldsElements, HoldsLayout, IsSound, heading_at, shape_at, elements_of, sheets_of, elements_at}
 use Rattle.ts_layout.specs.Surveyed.{ListsPlaces}
 use Rattle.ts_layout.specs.Chains.{AreFilled, IsChainOf, IsOnGrid, by_stamp}
 use Rattle.ts_layout.proofs.ElementPageLemmas.{within_list}

@@ -2,10 +2,10 @@
 use Rattle.std.proofs.Common.{◌≡◌, ℕ, Option, Some, None, List, length, sym, ap, ◌∙◌, ℤ, pos}
 use Rattle.std.specs.Option.{option_map}
 use Rattle.std.proofs.lemmas.List.{length-map}
-use Rattle.ts_row.specs.RowType.{Heading}
+use Rattle.ts_row.specs.Row.{Heading}
 use Rattle.ts_space.specs.Charge.{irregular_charge}
-use Rattle.ts_cells.specs.Cell.{page_room}
-use Rattle.ts_regular.specs.Offsets.{elements_from}
+use Rattle.ts_cells.specs.IrregularPage.{page_room}
+use Rattle.ts_regular.specs.RegularPage.{elements_from}
 use Rattle.ts_regular.specs.Places.{OffsetPage, all_in}
 use Rattle.ts_sheets.specs.Stamped.{stamped}
 use Rattle.ts_offset.specs.Grid.{GridPlan}

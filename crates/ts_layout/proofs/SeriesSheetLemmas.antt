@@ -3,7 +3,7 @@ use Rattle.std.specs.Prelude.{All, unwrap_or}
 use Rattle.std.proofs.Common.{◌≡◌, ℕ, ◌+◌, ℤ, pos, ◌<ℤ◌, IsSome, Option, Some, List, [], ◌∷◌, length, refl, sym, ap, subst, ◌∙◌, length-append}
 use Rattle.std.proofs.lemmas.List.Elements.{All-nil, All-cons, All-append}
 use Rattle.std.proofs.lemmas.List.Sums.{sum_by-cons}
-use Rattle.ts_row.specs.Element.{Element}
+use Rattle.ts_row.specs.Row.{Element}
 use Rattle.ts_row.specs.declared.kind.Column.{Column}
 use Rattle.ts_space.specs.declared.place.Place.{Place}
 use Rattle.ts_space.specs.Place.{AreAbove, IsRising, count_of}
@@ -11,12 +11,11 @@ use Rattle.ts_offset.specs.Grid.{GridPlan, stamp_of}
 use Rattle.ts_offset.specs.declared.shape.Shape.{Shape}
 use Rattle.ts_offset.specs.declared.shape.Shape.TheVariants.{Irregular, Regular}
 use Rattle.ts_cells.specs.IrregularPage.{first_stamp}
-use Rattle.ts_sheets.specs.Chain.{IsChain, all_in}
+use Rattle.ts_sheets.specs.Stamped.{IsChain, all_in, stamped, HaveStarts}
 use Rattle.ts_sheets.specs.Places.{AreChained}
-use Rattle.ts_regular.specs.Offsets.{OffsetElement, elements_from}
+use Rattle.ts_regular.specs.RegularPage.{OffsetElement, elements_from}
 use Rattle.ts_regular.specs.Places.{OffsetPage, AreOn, all_in as all_at}
 use Rattle.ts_regular.proofs.CellsLemmas.{count_in}
-use Rattle.ts_sheets.specs.Stamped.{stamped, HaveStarts}
 use Rattle.ts_layout.specs.Sheets.{Sheet, FillSheet, BeginInOrder, AreInSequence, AreSheetsOn, elements_in}
 use Rattle.ts_layout.specs.Chains.{chain_sheets, grid_sheets}
 use Rattle.ts_layout.proofs.GridLemmas.{grid_elements}

@@ -8,8 +8,8 @@ use Rattle.ts_space.specs.declared.place.Place.{Place}
 use Rattle.ts_space.specs.Place.{count_of}
 use Rattle.ts_space.specs.Directory.{Directory, places_of}
 use Rattle.ts_space.specs.Charge.{irregular_charge}
-use Rattle.ts_cells.specs.Cell.{page_room}
-use Rattle.ts_page.specs.Volume.{first_element_page}
+use Rattle.ts_cells.specs.IrregularPage.{page_room}
+use Rattle.ts_page.specs.Pages.{first_element_page}
 use Rattle.ts_model.specs.Definitions.{Definitions, ContainerDef, SeriesDef, IsDefinitions}
 use Rattle.ts_layout.specs.Sheets.{place_of_sheet}
 use Rattle.ts_layout.specs.Meaning.{ElementPage, Free, Cells, Layout, elements_on, elements_of, sheets_on, sheets_of, charge_on, sum_filled, charge_of_series, charge_of_container, KeepsQuotas}

@@ -5,18 +5,17 @@ use Rattle.std.specs.List.{cons_option}
 use Rattle.std.specs.Option.{option_map}
 use Rattle.std.proofs.lemmas.Int.{ints}
 use Rattle.std.proofs.lemmas.List.Elements.{All-nil, All-cons, All-head, All-tail}
-use Rattle.ts_row.specs.Element.{Element}
+use Rattle.ts_row.specs.Row.{Element}
 use Rattle.ts_row.specs.declared.kind.Column.{Column}
-use Rattle.ts_calendar.specs.Intervals.{IsLaid}
+use Rattle.ts_calendar.specs.Calendars.{IsLaid}
 use Rattle.ts_offset.specs.Grid.{GridPlan, stamp_of}
 use Rattle.ts_offset.specs.declared.shape.Shape.{Shape}
 use Rattle.ts_offset.specs.declared.shape.Shape.TheVariants.{Irregular, Regular}
 use Rattle.ts_cells.specs.IrregularPage.{AreRising, first_stamp}
-use Rattle.ts_sheets.specs.Chain.{AreLater, AreBefore, ArePages, all_in}
+use Rattle.ts_sheets.specs.Stamped.{AreLater, AreBefore, ArePages, all_in, stamped, HaveStarts}
 use Rattle.ts_sheets.proofs.OrderLemmas.{pages_in_order}
-use Rattle.ts_regular.specs.Offsets.{OffsetElement}
+use Rattle.ts_regular.specs.RegularPage.{OffsetElement}
 use Rattle.ts_regular.specs.Places.{all_in as all_at}
-use Rattle.ts_sheets.specs.Stamped.{stamped, HaveStarts}
 use Rattle.ts_layout.specs.Sheets.{Sheet, FillSheet, HoldsSheet, BeginInOrder, AreInSequence, elements_in}
 use Rattle.ts_layout.proofs.GridLemmas.{of_cells, rising_pages, grid_elements, rising_stamped}
 use Rattle.ts_layout.proofs.OptionLemmas.{there_of}

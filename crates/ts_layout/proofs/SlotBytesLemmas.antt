@@ -2,8 +2,8 @@
 use Rattle.std.proofs.Common.{◌≡◌, ◌≢◌, ℕ, ℤ, ◌<◌, ◌≤◌, ◌^◌, Option, Some, None, List, [], ◌∷◌, ◌++◌, length, take, drop, get_or, ◌==◌, if◌then◌else◌, refl, sym, ap, ◌∙◌, arith, lit≤}
 use Rattle.std.specs.Option.{IfSome, option_map}
 use Rattle.std.specs.Int.{w32, from_be_bytes}
-use Rattle.ts_page.specs.Head.{zero_page}
-use Rattle.ts_row.specs.RowType.{Heading}
+use Rattle.ts_page.specs.Pages.{zero_page}
+use Rattle.ts_row.specs.Row.{Heading}
 use Rattle.ts_row.specs.declared.kind.Column.{Column}
 use Rattle.ts_row.specs.declared.kind.ColumnKind.{ColumnKind}
 use Rattle.ts_row.specs.declared.kind.ColumnKind.TheVariants.{SmallInt, Integer, BigInt, Decimal, VarChar}
@@ -13,8 +13,7 @@ use Rattle.ts_model.specs.declared.def.Def.{Def}
 use Rattle.ts_model.specs.declared.def.Def.TheVariants as defs
 use Rattle.ts_model.specs.Definitions.{PatternDef, CalendarDef, SeriesDef, of_calendar, of_series, at_slot, kind_of}
 use Rattle.ts_layout.specs.Slot.{kind_bytes, column_bytes, columns_bytes, row_type_bytes, pattern_bytes, calendar_bytes, container_bytes, padded, series_code, regular_bytes, series_bytes, def_bytes, slot_bytes}
-use Rattle.ts_layout.specs.Limits.{IsRowTypeDef, IsContainerDef, IsRegularPart, IsSeriesDef, IsDef, IsSlotOf}
-use Rattle.ts_layout.specs.Meaning.{Follows}
+use Rattle.ts_layout.specs.Meaning.{IsRowTypeDef, IsContainerDef, IsRegularPart, IsSeriesDef, IsDef, IsSlotOf, Follows}
 use Rattle.ts_layout.proofs.FieldLemmas.{length-name, name_one, container_name, container_row_type, container_quota, series_first, series_length, series_key, series_container, series_regular, regular_calendar, regular_origin, row_type_name, row_type_stamp, row_type_count}
 use Rattle.ts_layout.proofs.LimitLemmas.{length-key}
 use Rattle.ts_layout.proofs.ColumnLemmas.{AreNamed, first_column, named_first, named_others, column_kind, column_name, behind_stamp}

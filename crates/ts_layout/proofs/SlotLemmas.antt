@@ -3,7 +3,7 @@ use Rattle.std.proofs.Common.{◌≡◌, None, replicate, refl, Some, ◌≢◌,
 use Rattle.std.specs.Option.{option_map}
 use Rattle.std.proofs.lemmas.Bool.{cases_eq}
 use Rattle.std.proofs.lemmas.List.{length-map}
-use Rattle.ts_page.specs.Head.{zero_page}
+use Rattle.ts_page.specs.Pages.{zero_page}
 use Rattle.ts_model.specs.declared.kind.Kind.{Kind}
 use Rattle.ts_model.specs.declared.def.Def.{Def}
 use Rattle.ts_model.specs.Definitions.{slots, limit, at_slot, Definitions, KindDef, to_def, from_def, table_of, IsDefinitions}

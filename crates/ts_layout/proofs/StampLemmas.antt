@@ -11,10 +11,9 @@ use Rattle.std.specs.FinMap.Entries.{find-put, find-where_key, below_all}
 use Rattle.std.proofs.lemmas.List.Sorted.{IsPermutation-sym}
 use Rattle.ts_row.specs.Row.{Row}
 use Rattle.ts_row.specs.declared.kind.Column.{Column}
-use Rattle.ts_cells.specs.Cell.{Element}
-use Rattle.ts_cells.specs.IrregularPage.{AreInOrder, AreRising}
+use Rattle.ts_cells.specs.IrregularPage.{Element, AreInOrder, AreRising}
 use Rattle.ts_irregular.specs.Edit.{element_at, with_element, without_element}
-use Rattle.ts_sheets.specs.Chain.{AreLater}
+use Rattle.ts_sheets.specs.Stamped.{AreLater}
 use Rattle.ts_sheets.proofs.OrderLemmas.{later_of, rising_tail}
 use Rattle.ts_layout.specs.Chains.{by_stamp}
 use Rattle.ts_layout.proofs.MemberLemmas.{Among, among_permuted}

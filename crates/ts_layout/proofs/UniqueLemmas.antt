@@ -9,8 +9,7 @@ use Rattle.ts_model.specs.declared.def.Def.{Def}
 use Rattle.ts_model.specs.Definitions.{Definitions, limit, at_slot, of_row_type, of_pattern, of_calendar, table_of, references, IsDefinitions}
 use Rattle.ts_model.proofs.PartsLemmas.{all-tables, table-rules, same_or_other}
 use Rattle.ts_layout.specs.Slot.{slot_bytes}
-use Rattle.ts_layout.specs.Limits.{IsSlotOf}
-use Rattle.ts_layout.specs.Meaning.{def_at, IsThere, AreThere, HoldsDefinitions, KeepLimits, AreThereIn, AreFollowing}
+use Rattle.ts_layout.specs.Meaning.{IsSlotOf, def_at, IsThere, AreThere, HoldsDefinitions, KeepLimits, AreThereIn, AreFollowing}
 use Rattle.ts_layout.proofs.PlaceLemmas.{at_slot-map}
 use Rattle.ts_layout.proofs.SlotBytesLemmas.{slot_one, calendar_slot_one}
 use Rattle.ts_layout.proofs.SlotLemmas.{own, same_in}

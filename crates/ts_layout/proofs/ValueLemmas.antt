@@ -7,7 +7,7 @@ use Rattle.std.specs.Ordering.{int_cmp}
 use Rattle.std.proofs.lemmas.Bool.Decides.{nat_tests}
 use Rattle.std.proofs.lemmas.List.Sorted.{IsPermutation-refl}
 use Rattle.ts_space.specs.Charge.{irregular_charge}
-use Rattle.ts_cells.specs.Cell.{Element}
+use Rattle.ts_cells.specs.IrregularPage.{Element}
 use Rattle.ts_row.specs.declared.kind.Column.{Column}
 use Rattle.ts_offset.specs.declared.shape.Shape.{Shape}
 use Rattle.ts_offset.specs.declared.shape.Shape.TheVariants as shapes
@@ -15,8 +15,7 @@ use Rattle.ts_model.specs.declared.kind.Kind.{Kind}
 use Rattle.ts_model.specs.declared.kind.Kind.TheVariants as kinds
 use Rattle.ts_model.specs.declared.def.Def.{Def}
 use Rattle.ts_calendar.specs.declared.text.PatternPart.TheVariants.{Named as ByName, Own}
-use Rattle.ts_model.specs.Catalogue.{Irregular, Regular}
-use Rattle.ts_model.specs.Kinds.{In, with_named, without}
+use Rattle.ts_model.specs.Catalogue.{Irregular, Regular, In, with_named, without}
 use Rattle.ts_model.specs.Definitions.{Definitions, RowTypeDef, PatternDef, CalendarDef, ContainerDef, SeriesDef, KindDef, to_def, table_of, name_of, slot_of, at_slot, calendar_reference, Refers}
 use Rattle.ts_layout.specs.Meaning.{Layout, ElementPage, Free, Cells, elements_on, elements_of, elements_at, sheets_on, sheets_of, sum_filled, charge_on, charge_of_series, IsInSequence, name_at, part_of, text_of, container_of, kind_in, series_of, value_of, named_in, catalogue_of}
 use Rattle.ts_layout.specs.Sheets.{Sheet, AreInSequence}

@@ -1,9 +1,7 @@
 -- Pages of which one has other bytes, and definitions in pages that stay.
 use Rattle.std.proofs.Common.{◌≡◌, ◌≢◌, ℕ, ◌<◌, ◌==◌, true, false, List, drop, refl, ap, ◌∙◌, arith}
 use Rattle.std.proofs.lemmas.Bool.Decides.{nat_tests}
-use Rattle.ts_page.specs.Head.{bytes_at}
-use Rattle.ts_page.specs.Pages.{EqualPages, with_page}
-use Rattle.ts_page.specs.Volume.{first_element_page}
+use Rattle.ts_page.specs.Pages.{bytes_at, EqualPages, with_page, first_element_page}
 use Rattle.ts_model.specs.Definitions.{Definitions}
 use Rattle.ts_layout.specs.Slot.{slot_size, page_of_slot, byte_of_slot, slots_in_page, bytes_of_slots}
 use Rattle.ts_layout.specs.Meaning.{HoldsDefinitions}

@@ -1,21 +1,18 @@
 -- What holds of the pages of a series, of a series that gets other pages, and of one that is dropped with its pages.
 use Rattle.std.specs.Prelude.{◌≡◌, ◌<◌, [], ◌++◌, ℕ, ℤ, List, IsPermutation, Some, None, length, slice_set}
 use Rattle.std.specs.FinMap.{get, insert, remove, entries, len}
-use Rattle.ts_model.specs.Kinds.{without}
-use Rattle.ts_row.specs.RowType.{Heading}
-use Rattle.ts_row.specs.Row.{Row}
+use Rattle.ts_model.specs.Catalogue.{without}
+use Rattle.ts_row.specs.Row.{Heading, Row}
 use Rattle.ts_row.specs.declared.kind.Column.{Column}
 use Rattle.ts_page.specs.Pages.{Contents}
 use Rattle.ts_space.specs.declared.place.Place.{Place}
 use Rattle.ts_space.specs.Place.{IsRising, count_of, pages_of}
 use Rattle.ts_space.specs.Directory.{Directory, places_of}
-use Rattle.ts_cells.specs.Cell.{Element}
-use Rattle.ts_cells.specs.IrregularPage.{AreInOrder}
+use Rattle.ts_cells.specs.IrregularPage.{Element, AreInOrder}
 use Rattle.ts_irregular.specs.Edit.{element_at, with_element, without_element}
-use Rattle.ts_sheets.specs.Chain.{IsChain, all_in}
+use Rattle.ts_sheets.specs.Stamped.{IsChain, all_in, stamped, HaveStarts}
 use Rattle.ts_sheets.specs.Places.{AreChained}
 use Rattle.ts_regular.specs.Places.{OffsetPage, AreOn, all_in as all_at}
-use Rattle.ts_sheets.specs.Stamped.{stamped, HaveStarts}
 use Rattle.ts_offset.specs.Grid.{GridPlan, stamp_of}
 use Rattle.ts_offset.specs.declared.shape.Shape.{Shape}
 use Rattle.ts_offset.specs.declared.shape.Shape.TheVariants.{Irregular, Regular}

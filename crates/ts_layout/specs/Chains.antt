@@ -3,28 +3,24 @@ use Rattle.std.specs.Prelude.{◌≡◌, ℕ, pos, unwrap_or, ◌-◌, ◌≤◌
 use Rattle.std.specs.Prelude.{IsPermutation, List, [], ◌∷◌, length, map, All, replicate, slice_set}
 use Rattle.std.specs.FinMap.{from_entries}
 use Rattle.ts_row.specs.declared.kind.Column.{Column}
-use Rattle.ts_row.specs.RowType.{Heading}
-use Rattle.ts_page.specs.Volume.{first_element_page}
-use Rattle.ts_page.specs.Pages.{IsFreePage, Contents}
+use Rattle.ts_row.specs.Row.{Heading}
+use Rattle.ts_page.specs.Pages.{first_element_page, IsFreePage, Contents}
 use Rattle.ts_space.specs.declared.place.Place.{Place}
 use Rattle.ts_space.specs.Place.{IsRising, count_of, pages_of}
-use Rattle.ts_cells.specs.Cell.{Element, page_room}
-use Rattle.ts_regular.specs.Offsets.{elements_from}
+use Rattle.ts_cells.specs.IrregularPage.{Element, page_room, first_stamp}
+use Rattle.ts_regular.specs.RegularPage.{elements_from}
 use Rattle.ts_regular.specs.Places.{OffsetPage, AreOn, all_in as all_at}
-use Rattle.ts_sheets.specs.Stamped.{stamped, HaveStarts}
+use Rattle.ts_sheets.specs.Stamped.{stamped, HaveStarts, IsChain, all_in}
 use Rattle.ts_offset.specs.Grid.{GridPlan}
 use Rattle.ts_offset.specs.declared.shape.Shape.{Shape}
-use Rattle.ts_cells.specs.IrregularPage.{first_stamp}
-use Rattle.ts_sheets.specs.Chain.{IsChain, all_in}
 use Rattle.ts_sheets.specs.Places.{AreChained}
-use Rattle.ts_model.specs.Catalogue.{Catalogue, Elements}
+use Rattle.ts_model.specs.Catalogue.{Catalogue, Elements, with_named}
 use Rattle.ts_model.specs.declared.kind.Kind.TheVariants as kinds
-use Rattle.ts_model.specs.Kinds.{with_named}
 use Rattle.ts_model.specs.Definitions.{Definitions, ContainerDef, SeriesDef, at_slot, with_slot}
-use Rattle.ts_layout.specs.Limits.{AreOfFormat}
+use Rattle.ts_layout.specs.Meaning.{AreOfFormat, ElementPage, Free, Cells, Layout, element_page, elements_at}
+use Rattle.ts_layout.specs.Meaning.{heading_at, shape_at, heading_of_container, charge_of_container, series_of}
+use Rattle.ts_layout.specs.Meaning.{catalogue_of}
 use Rattle.ts_layout.specs.Sheets.{Sheet, FillSheet, AreInSequence, AreSheetsOn}
-use Rattle.ts_layout.specs.Meaning.{ElementPage, Free, Cells, Layout, element_page, elements_at, heading_at, shape_at}
-use Rattle.ts_layout.specs.Meaning.{heading_of_container, charge_of_container, series_of, catalogue_of}
 
 -- elements by their stamps
 abbrev pub by_stamp : List Element → Elements

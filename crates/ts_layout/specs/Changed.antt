@@ -8,13 +8,12 @@ use Rattle.ts_model.specs.declared.kind.Kind.{Kind}
 use Rattle.ts_model.specs.declared.kind.Kind.TheVariants as kinds
 use Rattle.ts_model.specs.declared.def.Def.{Def}
 use Rattle.ts_model.specs.declared.def.Def.TheVariants as defs
-use Rattle.ts_calendar.specs.Calendar.{IsValid}
-use Rattle.ts_model.specs.Kinds.{HasNoPages}
+use Rattle.ts_calendar.specs.Calendars.{IsValid}
+use Rattle.ts_model.specs.Catalogue.{HasNoPages}
 use Rattle.ts_model.specs.Definitions.{Definitions, limit, kind_of, name_of, from_def, slots, with_slot, with_format}
 use Rattle.ts_model.specs.Definitions.{slot_of, references, IsUsed}
-use Rattle.ts_layout.specs.Limits.{IsDef}
-use Rattle.ts_layout.specs.Meaning.{Layout, ElementPage, Cells, element_page, def_at, heading_at, shape_at, quota_in}
-use Rattle.ts_layout.specs.Meaning.{sum_of_quotas, IsThere, Follows, IsOnCalendar}
+use Rattle.ts_layout.specs.Meaning.{IsDef, Layout, ElementPage, Cells, element_page, def_at, heading_at, shape_at}
+use Rattle.ts_layout.specs.Meaning.{quota_in, sum_of_quotas, IsThere, Follows, IsOnCalendar}
 use Rattle.ts_layout.specs.Slot.{slot_bytes, slot_size, byte_of_slot}
 
 -- outside the journal the same pages, but for the bytes behind the heads of free element pages

@@ -1,16 +1,16 @@
 -- What holds of charges and quotas.
 use Rattle.std.specs.Prelude.{◌≡◌, ◌≢◌, ◌+◌, ◌<◌, ◌≤◌, ℕ, Some, length, List}
-use Rattle.ts_row.specs.RowType.{Heading}
+use Rattle.ts_row.specs.Row.{Heading}
 use Rattle.ts_space.specs.Directory.{Directory, places_of}
 use Rattle.ts_row.specs.declared.kind.Column.{Column}
-use Rattle.ts_regular.specs.Offsets.{OffsetElement, AreRising}
+use Rattle.ts_regular.specs.RegularPage.{OffsetElement, AreRising}
 use Rattle.ts_sheets.specs.Charge.{charge_of}
 use Rattle.ts_sheets.specs.Stamped.{stamped, HaveStarts}
-use Rattle.ts_calendar.specs.Intervals.{IsLaid}
+use Rattle.ts_calendar.specs.Calendars.{IsLaid}
 use Rattle.ts_offset.specs.Grid.{GridPlan}
 use Rattle.ts_offset.specs.declared.shape.Shape.{Shape}
 use Rattle.ts_offset.specs.declared.shape.Shape.TheVariants.{Regular}
-use Rattle.ts_cells.specs.Cell.{page_room}
+use Rattle.ts_cells.specs.IrregularPage.{page_room}
 use Rattle.ts_model.specs.Catalogue.{Elements, columns_of, quota_of}
 use Rattle.ts_model.specs.Charge.{elements_charge, container_charge as charge_by_name}
 use Rattle.ts_model.specs.Definitions.{Definitions, ContainerDef, SeriesDef, series_slots, at_slot, IsDefinitions}

@@ -1,12 +1,12 @@
 -- What containers are charged, by the directory.
 use Rattle.std.specs.Prelude.{◌≡◌, ℕ, ℤ, length, suc, ◌+◌, ◌^◌, ◌<◌, ◌≤◌, ◌==◌, if◌then◌else◌, Option, Some, None}
 use Rattle.std.specs.Prelude.{option_map, unwrap_or, List, [], ◌∷◌}
-use Rattle.ts_row.specs.RowType.{Heading}
+use Rattle.ts_row.specs.Row.{Heading}
 use Rattle.ts_space.specs.Directory.{Directory, places_of}
 use Rattle.ts_space.specs.declared.place.Place.{Place}
 use Rattle.ts_space.specs.Place.{count_of}
 use Rattle.ts_space.specs.Charge.{irregular_places_charge}
-use Rattle.ts_cells.specs.Cell.{page_room}
+use Rattle.ts_cells.specs.IrregularPage.{page_room}
 use Rattle.ts_model.specs.Definitions.{Definitions, ContainerDef, SeriesDef, at_slot, container_slots, series_slots}
 use Rattle.ts_layout.specs.Meaning.{heading_of_container, heading_in}
 

@@ -1,15 +1,13 @@
 -- What holds of the formats of volumes.
 use Rattle.std.specs.Prelude.{◌≡◌, ◌≢◌, ℕ, true, false, List, length}
-use Rattle.ts_row.specs.RowType.{Heading, has_long_decimal}
-use Rattle.ts_row.specs.Element.{Element, has_hidden}
+use Rattle.ts_row.specs.Row.{Heading, has_long_decimal, Element, has_hidden}
 use Rattle.ts_page.specs.Pages.{EqualPages, with_page}
 use Rattle.ts_space.specs.Directory.{Directory}
 use Rattle.ts_model.specs.Catalogue.{Catalogue, in_newest_format, old_format, newest_format}
 use Rattle.ts_model.specs.Format.{KeepsFormat}
 use Rattle.ts_model.specs.Definitions.{Definitions, with_format}
 use Rattle.ts_layout.specs.Slot.{header_bytes}
-use Rattle.ts_layout.specs.Limits.{IsOfFormat, AreOfFormat}
-use Rattle.ts_layout.specs.Meaning.{Layout, HoldsLayout, IsSound, Means, catalogue_of}
+use Rattle.ts_layout.specs.Meaning.{IsOfFormat, AreOfFormat, Layout, HoldsLayout, IsSound, Means, catalogue_of}
 use Rattle.ts_layout.specs.Changed.{layout_in}
 use Rattle.ts_layout.specs.Surveyed.{free_pages, ListsPlaces}
 use Rattle.ts_layout.specs.Chains.{AreFilled}

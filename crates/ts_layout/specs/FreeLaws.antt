@@ -1,6 +1,6 @@
 -- What holds of free pages, and of the places of other series.
 use Rattle.std.specs.Prelude.{◌≡◌, ◌≢◌, ◌+◌, ℕ, List, length}
-use Rattle.ts_page.specs.Volume.{first_element_page}
+use Rattle.ts_page.specs.Pages.{first_element_page}
 use Rattle.ts_space.specs.Directory.{Directory, places_of, used_of, ChangesOnly}
 use Rattle.ts_model.specs.Definitions.{series_slots}
 use Rattle.ts_layout.specs.Meaning.{Layout, IsSound}

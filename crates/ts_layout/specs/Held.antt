@@ -1,15 +1,13 @@
 -- Definitions, places and free pages that are those of a layout, and such of which one series gets other pages.
 use Rattle.std.specs.Prelude.{◌≡◌, ℕ, ◌+◌, Some, List, length, IsPermutation}
-use Rattle.ts_row.specs.RowType.{Heading}
-use Rattle.ts_page.specs.Volume.{first_element_page}
-use Rattle.ts_page.specs.Pages.{Contents}
+use Rattle.ts_row.specs.Row.{Heading}
+use Rattle.ts_page.specs.Pages.{first_element_page, Contents}
 use Rattle.ts_space.specs.declared.place.Place.{Place}
 use Rattle.ts_space.specs.Directory.{Directory, places_of}
 use Rattle.ts_offset.specs.declared.shape.Shape.{Shape}
 use Rattle.ts_model.specs.Definitions.{Definitions, series_slots}
-use Rattle.ts_layout.specs.Limits.{AreOfFormat}
+use Rattle.ts_layout.specs.Meaning.{AreOfFormat, Layout, heading_at, shape_at, IsSound}
 use Rattle.ts_layout.specs.Sheets.{Sheet, elements_in}
-use Rattle.ts_layout.specs.Meaning.{Layout, heading_at, shape_at, IsSound}
 use Rattle.ts_layout.specs.Surveyed.{ListsPlaces, free_pages}
 use Rattle.ts_layout.specs.Chains.{AreFilled, IsRewritten}
 

@@ -1,17 +1,16 @@
 -- What holds of layouts and of their catalogues.
 use Rattle.std.specs.Prelude.{◌≡◌, ◌+◌, ◌<◌, ℕ, ℤ, true, false, Option, Some, None, List, length}
 use Rattle.std.specs.FinMap.{empty, get, len}
-use Rattle.ts_page.specs.Volume.{first_element_page}
-use Rattle.ts_page.specs.Pages.{EqualPages, with_page}
+use Rattle.ts_page.specs.Pages.{first_element_page, EqualPages, with_page}
 use Rattle.ts_space.specs.Directory.{Directory}
 use Rattle.ts_model.specs.declared.kind.Kind.{Kind}
 use Rattle.ts_model.specs.declared.kind.Kind.TheVariants as kinds
 use Rattle.ts_model.specs.declared.def.Def.{Def}
 use Rattle.ts_calendar.specs.declared.text.PatternPart.TheVariants.{Named, Own}
 use Rattle.ts_offset.specs.declared.shape.Shape.{Shape}
-use Rattle.ts_offset.specs.Walk.{IsOnStart}
-use Rattle.ts_model.specs.Catalogue.{Irregular, Regular, Catalogue, calendar_of, shape_of, heading_of, quotas}
-use Rattle.ts_model.specs.Kinds.{In, named, with_named, without, is_used}
+use Rattle.ts_offset.specs.Grid.{IsOnStart}
+use Rattle.ts_model.specs.Catalogue.{Irregular, Regular, Catalogue, calendar_of, shape_of, heading_of, quotas, In}
+use Rattle.ts_model.specs.Catalogue.{named, with_named, without, is_used}
 use Rattle.ts_model.specs.Definitions.{RowTypeDef, PatternDef, CalendarDef, ContainerDef, SeriesDef, KindDef, kind_of}
 use Rattle.ts_model.specs.Definitions.{name_of, name_in, to_def, table_of, limit, slots, at_slot, slot_of, vacant_slot}
 use Rattle.ts_model.specs.Definitions.{with_slot, IsUsed}

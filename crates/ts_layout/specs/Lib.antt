@@ -1,6 +1,5 @@
 pub mod Slot
 pub mod Rank
-pub mod Limits
 pub mod Sheets
 pub mod Meaning
 pub mod Changed

@@ -2,7 +2,7 @@
 use Rattle.std.specs.Prelude.{◌≡◌, ℕ, Some, List}
 use Rattle.std.specs.FinMap.{get}
 use Rattle.ts_model.specs.declared.kind.Kind.{Kind}
-use Rattle.ts_model.specs.Kinds.{named}
+use Rattle.ts_model.specs.Catalogue.{named}
 use Rattle.ts_model.specs.Definitions.{KindDef, to_def, name_in, table_of, slots, at_slot, slot_of}
 use Rattle.ts_layout.specs.Meaning.{Layout, def_at, value_of, catalogue_of}
 

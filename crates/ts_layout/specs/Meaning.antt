@@ -1,38 +1,105 @@
--- What the pages of a volume mean: they are laid out from definitions and elements that keep the rules, and mean the
--- catalogue of these.
-use Rattle.std.specs.Prelude.{◌≡◌, ℕ, ℤ, IfSome, suc, ◌+◌, ◌-◌, ◌<◌, ◌≤◌, ◌==◌, if◌then◌else◌, IsSome, IsPermutation}
-use Rattle.std.specs.Prelude.{Option, Some, None, option_and_then, option_map, unwrap_or, List, [], ◌∷◌, length, drop}
-use Rattle.std.specs.Prelude.{replicate, slice_index_or, sum_by}
-use Rattle.std.specs.List.{flat_map}
+-- What pages mean: definitions within their limits, the pages laid out from definitions and elements, and the
+-- catalogue.
+use Rattle.std.specs.Prelude.{◌≡◌, ℕ, ℤ, ◌<◌, ◌≤◌, ◌==◌, if◌then◌else◌, IsSome, IsPermutation, false, IsTrue, Option}
+use Rattle.std.specs.Prelude.{Some, None, option_and_then, option_map, unwrap_or, IfSome, suc, ◌+◌, ◌-◌, List, [], ◌∷◌}
+use Rattle.std.specs.Prelude.{length, drop, replicate, slice_index_or, sum_by}
+use Rattle.std.specs.List.{list_all, flat_map}
 use Rattle.std.specs.FinMap.{from_entries}
+use Rattle.ts_base.specs.Name.{is_name, is_key}
+use Rattle.ts_base.specs.Moment.{IsStamp}
 use Rattle.ts_row.specs.declared.kind.Column.{Column}
-use Rattle.ts_row.specs.RowType.{Heading}
-use Rattle.ts_page.specs.Volume.{page_size, first_element_page, most_element_pages}
-use Rattle.ts_page.specs.Head.{bytes_at}
-use Rattle.ts_page.specs.Pages.{IsFreePage}
-use Rattle.ts_space.specs.Charge.{irregular_charge}
-use Rattle.ts_cells.specs.Cell.{Element, page_room}
-use Rattle.ts_calendar.specs.Calendar.{IsValid}
+use Rattle.ts_row.specs.Row.{Heading, is_row_type, has_long_decimal, Element, has_hidden}
+use Rattle.ts_pattern.specs.Patterns.{is_pattern}
+use Rattle.ts_calendar.specs.Calendars.{IsValid}
 use Rattle.ts_calendar.specs.declared.text.PatternPart.{PatternPart}
 use Rattle.ts_calendar.specs.declared.text.PatternPart.TheVariants.{Named as ByName, Own}
 use Rattle.ts_calendar.specs.declared.text.CalendarText.{CalendarText}
 use Rattle.ts_offset.specs.declared.shape.Shape.{Shape}
 use Rattle.ts_offset.specs.declared.shape.Shape.TheVariants as shapes
-use Rattle.ts_offset.specs.Grid.{GridPlan}
-use Rattle.ts_offset.specs.Walk.{IsOnStart}
-use Rattle.ts_model.specs.Catalogue.{Named, Catalogue, Container, SeriesKind, Series, Elements}
-use Rattle.ts_model.specs.Catalogue.{Irregular as AnyStamps, Regular as OnCalendar}
-use Rattle.ts_model.specs.Kinds.{In}
+use Rattle.ts_offset.specs.Grid.{GridPlan, IsOnStart}
+use Rattle.ts_space.specs.Charge.{irregular_charge}
+use Rattle.ts_page.specs.Pages.{most_element_pages, page_size, first_element_page, bytes_at, IsFreePage}
+use Rattle.ts_cells.specs.IrregularPage.{page_room}
+use Rattle.ts_model.specs.Catalogue.{old_format, Named, Catalogue, Container, SeriesKind, Series, Elements}
+use Rattle.ts_model.specs.Catalogue.{Irregular as AnyStamps, Regular as OnCalendar, In}
 use Rattle.ts_model.specs.declared.kind.Kind.{Kind}
 use Rattle.ts_model.specs.declared.kind.Kind.TheVariants as kinds
 use Rattle.ts_model.specs.declared.def.Def.{Def}
-use Rattle.ts_model.specs.Definitions.{Definitions, PatternDef, CalendarDef, ContainerDef, SeriesDef, KindDef, limit}
-use Rattle.ts_model.specs.Definitions.{name_in, table_of, at_slot, by_name, references, IsDefinitions}
+use Rattle.ts_model.specs.declared.def.Def.TheVariants as defs
+use Rattle.ts_model.specs.Definitions.{RowTypeDef, PatternDef, CalendarDef, ContainerDef, SeriesDef, KindDef, limit}
+use Rattle.ts_model.specs.Definitions.{row_type_slots, pattern_slots, calendar_slots, container_slots, kind_of}
+use Rattle.ts_model.specs.Definitions.{Definitions, name_in, table_of, at_slot, by_name, references, IsDefinitions}
 pub use Rattle.ts_model.specs.Definitions.{def_at}
-use Rattle.ts_layout.specs.Limits.{IsSlotOf, AreOfFormat}
 use Rattle.ts_layout.specs.Sheets.{Sheet, HoldsSheet, AreInSequence}
 use Rattle.ts_layout.specs.Slot.{slot_size, slot_bytes, page_of_slot, byte_of_slot, first_definition_page}
 use Rattle.ts_layout.specs.Slot.{slots_in_page, bytes_of_slots, header_bytes}
+
+-- The limits that each definition keeps by itself, and what the format of a volume asks.
+
+-- what a volume of a format asks of a row type: in the old one no decimal has over 18 digits
+abbrev pub IsOfFormat : ℕ → Heading → Type 0
+IsOfFormat format heading = format ≡ old_format → has_long_decimal heading.columns ≡ false
+
+-- what it asks of the elements of a page: in the old one none is hidden
+abbrev pub AreOfFormat : ℕ → List Element → Type 0
+AreOfFormat format es = format ≡ old_format → has_hidden es ≡ false
+
+-- names of words, and columns that make a row type of the format
+pub record IsRowTypeDef (format : ℕ) (r : RowTypeDef) : Type 0 where
+  pub name : IsTrue (is_name r.name)
+  pub stamp : IsTrue (is_name r.heading.stamp)
+  pub columns : IsTrue (list_all (λ c. is_name c.name) r.heading.columns)
+  pub rules : IsTrue (is_row_type r.heading.stamp r.heading.columns)
+  pub of_format : IsOfFormat format r.heading
+
+-- a name, and merged runs within the limits
+pub record IsPatternDef (p : PatternDef) : Type 0 where
+  pub name : IsTrue (is_name p.name)
+  pub runs : IsTrue (is_pattern p.pattern.runs)
+
+-- a name, two stamps, merged runs within the limits, and the slot of a pattern, if there is one
+pub record IsCalendarDef (c : CalendarDef) : Type 0 where
+  pub name : IsTrue (is_name c.name)
+  pub start : IsStamp c.calendar.start
+  pub patt_start : IsStamp c.calendar.patt_start
+  pub runs : IsTrue (is_pattern c.calendar.pattern.runs)
+  pub by : IfSome c.by (λ slot. slot < pattern_slots)
+
+-- a name, a slot of a row type, and a quota of 1 to 65536 pages
+pub record IsContainerDef (c : ContainerDef) : Type 0 where
+  pub name : IsTrue (is_name c.name)
+  pub row_type : c.row_type < row_type_slots
+  pub some : 1 ≤ c.quota
+  pub most : c.quota ≤ most_element_pages
+
+-- the slot of a calendar, and a stamp
+pub record IsRegularPart (regular : ℕ × ℤ) : Type 0 where
+  pub calendar : regular.0 < calendar_slots
+  pub origin : IsStamp regular.1
+
+-- a key, a slot of a container, and for a regular series the slot of a calendar and a stamp
+pub record IsSeriesDef (s : SeriesDef) : Type 0 where
+  pub key : IsTrue (is_key s.key)
+  pub container : s.container < container_slots
+  pub regular : IfSome s.regular IsRegularPart
+
+-- a definition of any kind, in a volume of a format
+abbrev pub IsDef : ℕ → Def → Type 0
+IsDef format (defs.RowType name kind) = IsRowTypeDef format (record { name = name; heading = kind })
+IsDef format (defs.Pattern name pattern) = IsPatternDef (record { name = name; pattern = pattern })
+IsDef format (defs.Calendar name calendar by) = IsCalendarDef (record { name = name; calendar = calendar; by = by })
+IsDef format (defs.Container name row_type quota) =
+    IsContainerDef (record { name = name; row_type = row_type; quota = quota })
+IsDef format (defs.Series key container regular) =
+    IsSeriesDef (record { key = key; container = container; regular = regular })
+
+-- an empty slot, or a definition of the kind
+abbrev pub IsSlotOf : ℕ → Kind → Option Def → Type 0
+IsSlotOf format kind None = Unit {0}
+IsSlotOf format kind (Some def) = (kind_of def ≡ kind) × IsDef format def
+
+-- What the pages of a volume mean: they are laid out from definitions and elements that keep the rules, and mean the
+-- catalogue of these.
 
 -- an element page: free, or with a sheet of the series in a slot
 pub data ElementPage : Type 0 where

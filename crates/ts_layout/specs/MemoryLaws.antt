@@ -3,11 +3,10 @@ use Rattle.std.specs.Prelude.{◌≡◌, ◌+◌, ◌-◌, ◌<◌, ◌≤◌, [
 use Rattle.ts_space.specs.declared.place.Place.{Place}
 use Rattle.ts_space.specs.Directory.{Directory, places_of}
 use Rattle.ts_model.specs.declared.kind.Kind.TheVariants as kinds
-use Rattle.ts_row.specs.RowType.{Heading}
-use Rattle.ts_page.specs.Volume.{first_element_page, most_element_pages}
-use Rattle.ts_page.specs.Pages.{Contents}
+use Rattle.ts_row.specs.Row.{Heading}
+use Rattle.ts_page.specs.Pages.{first_element_page, most_element_pages, Contents}
 use Rattle.ts_space.specs.Place.{pages_of}
-use Rattle.ts_cells.specs.Cell.{page_room}
+use Rattle.ts_cells.specs.IrregularPage.{page_room}
 use Rattle.ts_sheets.specs.Places as chain
 use Rattle.ts_regular.specs.Places as regular
 use Rattle.ts_offset.specs.Grid.{GridPlan}

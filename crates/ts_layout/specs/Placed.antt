@@ -2,9 +2,8 @@
 -- that are all different and all there are, and charges by these places that keep the quotas.
 use Rattle.std.specs.Prelude.{◌≡◌, ◌≢◌, ℕ, ◌+◌, ◌-◌, ◌<◌, ◌≤◌, Some, List, ◌++◌, length, All, AllPairs, IsPermutation}
 use Rattle.std.specs.List.{flat_map}
-use Rattle.ts_row.specs.RowType.{Heading}
-use Rattle.ts_page.specs.Volume.{first_element_page, most_element_pages}
-use Rattle.ts_page.specs.Pages.{Contents, IsElementPage}
+use Rattle.ts_row.specs.Row.{Heading}
+use Rattle.ts_page.specs.Pages.{first_element_page, most_element_pages, Contents, IsElementPage}
 use Rattle.ts_space.specs.declared.place.Place.{Place}
 use Rattle.ts_space.specs.Place.{IsRising, pages_of}
 use Rattle.ts_space.specs.Directory.{Directory, places_of, used_of}

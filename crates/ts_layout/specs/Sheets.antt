@@ -2,17 +2,13 @@
 use Rattle.std.specs.Prelude.{◌≡◌, ℕ, ◌%◌, ℤ, pos, ◌<ℤ◌, Some, List, [], ◌∷◌, length, map}
 use Rattle.std.specs.List.{flat_map}
 use Rattle.ts_row.specs.declared.kind.Column.{Column}
-use Rattle.ts_row.specs.Element.{Element}
+use Rattle.ts_row.specs.Row.{Element}
 use Rattle.ts_space.specs.declared.place.Place.{Place}
-use Rattle.ts_cells.specs.Cell.{page_room}
-use Rattle.ts_cells.specs.IrregularPage.{IsIrregularPage, first_stamp}
+use Rattle.ts_cells.specs.IrregularPage.{page_room, IsIrregularPage, first_stamp}
 use Rattle.ts_cells.specs.IrregularPage as irregular
-use Rattle.ts_sheets.specs.Chain.{IsChain}
-use Rattle.ts_regular.specs.Cell.{Cell, regular_room}
-use Rattle.ts_regular.specs.Offsets.{elements_from}
-use Rattle.ts_regular.specs.RegularPage.{IsRegularPage}
+use Rattle.ts_sheets.specs.Stamped.{IsChain, stamped, HaveStarts}
+use Rattle.ts_regular.specs.RegularPage.{Cell, regular_room, elements_from, IsRegularPage}
 use Rattle.ts_regular.specs.RegularPage as regular
-use Rattle.ts_sheets.specs.Stamped.{stamped, HaveStarts}
 use Rattle.ts_offset.specs.Grid.{GridPlan}
 use Rattle.ts_offset.specs.declared.shape.Shape.{Shape}
 use Rattle.ts_offset.specs.declared.shape.Shape.TheVariants.{Irregular, Regular}

@@ -8,13 +8,12 @@ use Rattle.ts_base.specs.declared.unit.Unit.TheVariants as units
 use Rattle.ts_row.specs.declared.kind.ColumnKind.{ColumnKind}
 use Rattle.ts_row.specs.declared.kind.ColumnKind.TheVariants.{SmallInt, Integer, BigInt, Decimal, VarChar}
 use Rattle.ts_row.specs.declared.kind.Column.{Column}
-use Rattle.ts_row.specs.RowType.{Heading}
+use Rattle.ts_row.specs.Row.{Heading}
 use Rattle.ts_pattern.specs.declared.run.Run.{Run}
-use Rattle.ts_pattern.specs.Plan.{Plan}
-use Rattle.ts_calendar.specs.Plan.{CalendarPlan}
-use Rattle.ts_cells.specs.Cell.{stamp_bytes}
-use Rattle.ts_page.specs.Volume.{page_size}
-use Rattle.ts_page.specs.Head.{zero_page}
+use Rattle.ts_pattern.specs.Patterns.{Plan}
+use Rattle.ts_calendar.specs.Calendars.{CalendarPlan}
+use Rattle.ts_cells.specs.IrregularPage.{stamp_bytes}
+use Rattle.ts_page.specs.Pages.{page_size, zero_page}
 use Rattle.ts_model.specs.Definitions.{container_slots, series_slots}
 use Rattle.ts_layout.specs.declared.place.Slots.{Slots}
 use Rattle.ts_model.specs.declared.kind.Kind.{Kind}

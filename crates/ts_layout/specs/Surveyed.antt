@@ -1,6 +1,6 @@
 -- What is kept in memory of a volume: its definitions, the directory of its pages and its free pages.
 use Rattle.std.specs.Prelude.{ℕ, suc, ◌<◌, ◌==◌, IsPermutation, if◌then◌else◌, List, [], ◌∷◌, ◌++◌}
-use Rattle.ts_page.specs.Volume.{first_element_page}
+use Rattle.ts_page.specs.Pages.{first_element_page}
 use Rattle.ts_space.specs.declared.place.Place.{Place}
 use Rattle.ts_space.specs.Place.{IsRising}
 use Rattle.ts_layout.specs.Sheets.{place_of_sheet}

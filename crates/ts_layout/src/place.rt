@@ -1,7 +1,7 @@
 // Where slots stand in the definition pages.
 ghost use Rattle.std.specs.Prelude.{◌≡◌, ◌<◌, ◌≤◌, ◌^◌};
 ghost use Rattle.ts_model.specs.Definitions.{limit};
-ghost use Rattle.ts_page.specs.Volume.{page_size, first_element_page};
+ghost use Rattle.ts_page.specs.Pages.{page_size, first_element_page};
 ghost use Rattle.ts_layout.specs.Slot.{first_definition_page, slot_size, slots_in_page, page_of_slot, byte_of_slot};
 
 use ts_model::Kind;

@@ -2,7 +2,7 @@
 use Rattle.std.specs.Prelude.{ℕ, ◌+◌, ◌/◌, List, map, sum, option_map, unwrap_or}
 use Rattle.std.specs.FinMap.{entries, len}
 use Rattle.ts_row.specs.declared.kind.Column.{Column}
-use Rattle.ts_row.specs.RowType.{width_of}
+use Rattle.ts_row.specs.Row.{width_of}
 use Rattle.ts_space.specs.Charge.{irregular_charge, regular_charge}
 use Rattle.ts_offset.specs.declared.shape.Shape.{Shape}
 use Rattle.ts_offset.specs.declared.shape.Shape.TheVariants.{Irregular, Regular}

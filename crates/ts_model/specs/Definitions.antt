@@ -4,9 +4,9 @@ use Rattle.std.specs.Prelude.{◌≡◌, ℕ, ℤ, ◌+◌, ◌<◌, ◌⊎◌, 
 use Rattle.std.specs.Prelude.{slice_index_or, slice_set, position, is_none, Option, Some, None, option_map}
 use Rattle.std.specs.Prelude.{option_and_then, bytes_eq, Contains}
 use Rattle.std.specs.FinMap.{from_entries}
-use Rattle.ts_row.specs.RowType.{Heading}
-use Rattle.ts_pattern.specs.Plan.{Plan}
-use Rattle.ts_calendar.specs.Plan.{CalendarPlan}
+use Rattle.ts_row.specs.Row.{Heading}
+use Rattle.ts_pattern.specs.Patterns.{Plan}
+use Rattle.ts_calendar.specs.Calendars.{CalendarPlan}
 use Rattle.ts_model.specs.Catalogue.{Named, old_format, newest_format}
 use Rattle.ts_model.specs.declared.kind.Kind.{Kind}
 use Rattle.ts_model.specs.declared.kind.Kind.TheVariants as kinds

@@ -1,8 +1,7 @@
 -- What the format of a volume asks of its catalogue.
 use Rattle.std.specs.Prelude.{◌≡◌, false, ℕ, ℤ, List, Some}
 use Rattle.std.specs.FinMap.{get}
-use Rattle.ts_row.specs.RowType.{Heading, has_long_decimal}
-use Rattle.ts_row.specs.Row.{Row}
+use Rattle.ts_row.specs.Row.{Heading, has_long_decimal, Row}
 use Rattle.ts_model.specs.Catalogue.{Series, Catalogue, old_format}
 use Rattle.ts_model.specs.Definitions.{IsFormat}
 

@@ -2,6 +2,5 @@ pub mod Catalogue
 pub mod Charge
 pub mod Definitions
 pub mod Format
-pub mod Kinds
 pub mod Table
 pub mod Parts

@@ -1,6 +1,6 @@
 // What a command touches.
 ghost use Rattle.std.specs.Prelude.{◌≡◌, ◌<◌, ◌^◌, length, IfOk};
-ghost use Rattle.ts_calendar.specs.Text.{read_calendar};
+ghost use Rattle.ts_calendar.specs.Calendars.{read_calendar};
 ghost use Rattle.ts_command.specs.Form.{HasForm};
 ghost use Rattle.ts_multi.specs.Touched.{objects, one, two, pattern_named};
 

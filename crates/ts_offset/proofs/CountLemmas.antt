@@ -3,15 +3,12 @@ use Rattle.std.proofs.Common.{◌≡◌, ℕ, zero, suc, ◌<◌, Bool, true, fa
 use Rattle.std.specs.Prelude.{int_lt}
 use Rattle.std.specs.List.{cons_option}
 use Rattle.std.proofs.lemmas.Int.{by_lt_z, ints}
-use Rattle.ts_calendar.specs.Plan.{CalendarPlan}
-use Rattle.ts_calendar.specs.Intervals.{start_at, is_on}
+use Rattle.ts_calendar.specs.Calendars.{CalendarPlan, start_at, is_on}
 use Rattle.ts_calendar.proofs.StampLemmas.{int_lt_yes, int_lt_no}
-use Rattle.ts_offset.specs.Walk.{numbers_from, gap, count, on_start, starts_among, on_starts, IsOnStart, IsFirstFrom, IsEnd}
+use Rattle.ts_offset.specs.Grid.{numbers_from, gap, count, on_start, starts_among, on_starts, IsOnStart, IsFirstFrom, IsEnd, starts_after, starts_between, GridPlan, starts_before, starts_of}
 use Rattle.ts_base.specs.Answer.{within_rows}
 use Rattle.ts_base.specs.declared.refusal.Refusal.TheVariants.{TooLarge}
 use Rattle.ts_pattern.proofs.RunLemmas.{lt_yes, lt_no}
-use Rattle.ts_offset.specs.Counting.{starts_after, starts_between}
-use Rattle.ts_offset.specs.Grid.{GridPlan, starts_before, starts_of}
 use Rattle.ts_offset.proofs.ListLemmas.{taken-at}
 use Rattle.ts_offset.proofs.WindowLemmas.{span, rest, far, gap-up, gap-none}
 use Rattle.ts_offset.proofs.HeldLemmas.{on-exists}

@@ -3,14 +3,10 @@ use Rattle.std.proofs.Common.{◌≡◌, ℕ, ◌<◌, true, false, cond, length
 use Rattle.std.proofs.lemmas.Int.{by_lt_z, ints}
 use Rattle.ts_base.specs.Moment.{IsStamp}
 use Rattle.ts_base.specs.declared.refusal.Refusal.TheVariants.{OffStamp, BeforeOrigin}
-use Rattle.ts_calendar.specs.Plan.{CalendarPlan}
-use Rattle.ts_calendar.specs.Intervals.{start_at, is_on, Holds, IsOnStamp}
+use Rattle.ts_calendar.specs.Calendars.{CalendarPlan, start_at, is_on, Holds, IsOnStamp, IsLaid, IsNear}
 use Rattle.ts_calendar.proofs.StampLemmas.{int_lt_yes, int_lt_no}
 use Rattle.ts_calendar.proofs.LineLemmas.{line-rises}
-use Rattle.ts_offset.specs.Walk.{gap, count, on_start, starts_among, IsFirstFrom, IsEnd}
-use Rattle.ts_calendar.specs.Intervals.{IsLaid}
-use Rattle.ts_calendar.specs.First.{IsNear}
-use Rattle.ts_offset.specs.Grid.{GridPlan, held_start, starts_before, offset_at, offset_of, stamp_of, IsHeldBefore}
+use Rattle.ts_offset.specs.Grid.{gap, count, on_start, starts_among, IsFirstFrom, IsEnd, GridPlan, held_start, starts_before, offset_at, offset_of, stamp_of, IsHeldBefore}
 use Rattle.ts_offset.proofs.ListLemmas.{taken-at, taken-from}
 use Rattle.ts_offset.proofs.StartLemmas.{IsAt, on-line, start-one, first-at}
 use Rattle.ts_offset.proofs.WindowLemmas.{on-start, gap-none, gap-up}

@@ -4,16 +4,11 @@ use Rattle.std.specs.Prelude.{int_lt, is_some}
 use Rattle.std.proofs.lemmas.Bool.{and_parts}
 use Rattle.std.proofs.lemmas.Int.{ints}
 use Rattle.ts_base.specs.Moment.{IsStamp}
-use Rattle.ts_calendar.specs.Plan.{CalendarPlan}
-use Rattle.ts_calendar.specs.Intervals.{start_at, is_on, IsOnStamp, IsBefore, Holds, starts_from}
-use Rattle.ts_calendar.specs.First.{first_from}
+use Rattle.ts_calendar.specs.Calendars.{CalendarPlan, start_at, is_on, IsOnStamp, IsBefore, Holds, starts_from, first_from, IsLaid, IsNear}
 use Rattle.ts_calendar.proofs.StampLemmas.{int_lt_yes, int_lt_no, int_lt-true, int_lt-false}
 use Rattle.ts_calendar.proofs.HeldLemmas.{holds-around, holds-only}
 use Rattle.ts_calendar.proofs.FirstLemmas.{first_from-found, first_from-none}
-use Rattle.ts_offset.specs.Walk.{IsOnStart, on_start}
-use Rattle.ts_calendar.specs.Intervals.{IsLaid}
-use Rattle.ts_calendar.specs.First.{IsNear}
-use Rattle.ts_offset.specs.Grid.{starts_by, ends_after, holds_on, held_start}
+use Rattle.ts_offset.specs.Grid.{IsOnStart, on_start, starts_by, ends_after, holds_on, held_start}
 use Rattle.ts_offset.proofs.StartLemmas.{IsAt}
 
 not-true : (b : Bool) → not b ≡ true → b ≡ false

@@ -4,7 +4,7 @@ use Rattle.std.specs.List.{cons_option}
 use Rattle.std.proofs.lemmas.Int.{ints}
 use Rattle.std.proofs.lemmas.List.{append-nil, length_push}
 use Rattle.std.proofs.lemmas.List.Elements.{filter_map-append, filter-append}
-use Rattle.ts_offset.specs.Walk.{numbers_from}
+use Rattle.ts_offset.specs.Grid.{numbers_from}
 
 pub numbers-zero : (k : ℤ) → numbers_from k 0 ≡ []
 unfolding numbers_from

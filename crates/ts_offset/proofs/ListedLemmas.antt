@@ -1,11 +1,9 @@
 -- The list of all on starts.
 use Rattle.std.proofs.Common.{◌≡◌, ℕ, ◌+◌, ◌-◌, ◌<◌, ◌≤◌, cond, length, slice_get, Option, Some, None, refl, ap, ◌∙◌, arith, ℤ, pos, neg_ℤ, ◌+ℤ◌, ◌-ℤ◌, ◌<ℤ◌, unsigned_abs, length-append, filter_map}
 use Rattle.std.proofs.lemmas.Int.{by_lt_z, ints}
-use Rattle.ts_calendar.specs.Plan.{CalendarPlan}
-use Rattle.ts_calendar.specs.Intervals.{start_at}
+use Rattle.ts_calendar.specs.Calendars.{CalendarPlan, start_at, IsLaid}
 use Rattle.ts_calendar.proofs.LawLemmas.{line-near}
-use Rattle.ts_offset.specs.Walk.{numbers_from, on_start, on_starts, IsOnStart}
-use Rattle.ts_calendar.specs.Intervals.{IsLaid}
+use Rattle.ts_offset.specs.Grid.{numbers_from, on_start, on_starts, IsOnStart}
 use Rattle.ts_offset.proofs.ListLemmas.{taken-at, taken-from, taken-append}
 use Rattle.ts_offset.proofs.StartLemmas.{on-line, rise}
 use Rattle.ts_offset.proofs.WindowLemmas.{on-start}

@@ -2,15 +2,10 @@
 use Rattle.std.proofs.Common.{◌≡◌, ℕ, zero, suc, Bool, true, false, cond, Option, Some, None, refl, sym, ap, ◌∙◌, arith, ℤ, pos, negsuc, neg_ℤ, ◌+ℤ◌, ◌≤ℤ◌, ◌<ℤ◌, option_and_then}
 use Rattle.std.proofs.lemmas.Int.{by_lt_z, ints}
 use Rattle.ts_base.specs.Moment.{IsStamp, stamp_if_any}
-use Rattle.ts_calendar.specs.Plan.{CalendarPlan}
-use Rattle.ts_calendar.specs.Intervals.{start_at, IsBefore, Holds}
-use Rattle.ts_calendar.specs.First.{first_from, first_interval}
+use Rattle.ts_calendar.specs.Calendars.{CalendarPlan, start_at, IsBefore, Holds, first_from, first_interval, IsLaid, IsNear}
 use Rattle.ts_calendar.proofs.StampLemmas.{stamp-some}
 use Rattle.ts_calendar.proofs.LineLemmas.{line-start, line-rises}
-use Rattle.ts_offset.specs.Walk.{IsOnStart}
-use Rattle.ts_calendar.specs.Intervals.{IsLaid}
-use Rattle.ts_calendar.specs.First.{IsNear}
-use Rattle.ts_offset.specs.Grid.{holds_on, held_start, IsHeldFrom}
+use Rattle.ts_offset.specs.Grid.{IsOnStart, holds_on, held_start, IsHeldFrom}
 use Rattle.ts_offset.proofs.StartLemmas.{IsAt, line, on-line}
 use Rattle.ts_offset.proofs.HeldLemmas.{holds-test, held-on}
 use Rattle.ts_calendar.proofs.LawLemmas.{line-near}

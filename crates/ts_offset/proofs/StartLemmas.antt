@@ -2,14 +2,11 @@
 use Rattle.std.proofs.Common.{◌≡◌, sym, ap, ◌∙◌, arith, ℤ, pos, ◌+ℤ◌, ◌≤ℤ◌, ◌<ℤ◌, Some}
 use Rattle.std.proofs.lemmas.Int.{by_lt_z, ints}
 use Rattle.ts_base.specs.Moment.{IsStamp}
-use Rattle.ts_calendar.specs.Plan.{CalendarPlan}
-use Rattle.ts_calendar.specs.Intervals.{start_at}
+use Rattle.ts_calendar.specs.Calendars.{CalendarPlan, start_at, IsLaid, IsNear}
 use Rattle.ts_calendar.specs.Line.{line_at, IsLineAround}
 use Rattle.ts_calendar.proofs.LineLemmas.{line-rises}
 use Rattle.ts_calendar.proofs.HeldLemmas.{line-order, start-is}
-use Rattle.ts_offset.specs.Walk.{IsFirstFrom, IsEnd}
-use Rattle.ts_calendar.specs.Intervals.{IsLaid}
-use Rattle.ts_calendar.specs.First.{IsNear}
+use Rattle.ts_offset.specs.Grid.{IsFirstFrom, IsEnd}
 
 abbrev pub line : CalendarPlan → ℤ → ℤ
 line c k = line_at c.pattern.unit c.patt_start k

@@ -1,10 +1,9 @@
 -- The on starts of a span are those of the intervals from its first one on.
 use Rattle.std.proofs.Common.{◌≡◌, ◌+◌, Bool, true, false, cond, filter, Option, Some, None, refl, sym, ap, ◌∙◌, arith, ℤ, pos, neg_ℤ, ◌+ℤ◌, ◌-ℤ◌, ◌≤ℤ◌, ◌<ℤ◌, unsigned_abs}
 use Rattle.std.proofs.lemmas.Int.{by_lt_z, ints}
-use Rattle.ts_calendar.specs.Plan.{CalendarPlan}
-use Rattle.ts_calendar.specs.Intervals.{start_at, is_on}
+use Rattle.ts_calendar.specs.Calendars.{CalendarPlan, start_at, is_on}
 use Rattle.ts_calendar.proofs.StampLemmas.{int_lt_yes, int_lt_no}
-use Rattle.ts_offset.specs.Walk.{gap, on_start, starts_among, on_starts, IsFirstFrom, IsEnd}
+use Rattle.ts_offset.specs.Grid.{gap, on_start, starts_among, on_starts, IsFirstFrom, IsEnd}
 use Rattle.ts_offset.proofs.ListLemmas.{taken-window}
 
 picked : (b : Bool) (o : Option ℤ) (s : ℤ) → cond b o None ≡ Some s → (b ≡ true) × (o ≡ Some s)

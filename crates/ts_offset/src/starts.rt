@@ -1,9 +1,7 @@
 // What the list of on starts is, and the start of the interval that holds a stamp.
 ghost use Rattle.std.specs.Prelude.{◌≡◌, ℕ, ◌<◌, ◌↔◌, ℤ, ◌<ℤ◌, slice_get, Some};
-ghost use Rattle.ts_calendar.specs.Plan.{CalendarPlan};
-ghost use Rattle.ts_offset.specs.Walk.{IsOnStart, on_starts};
-ghost use Rattle.ts_calendar.specs.Intervals.{IsLaid};
-ghost use Rattle.ts_offset.specs.Grid.{IsHeldFrom, held_start};
+ghost use Rattle.ts_calendar.specs.Calendars.{CalendarPlan, IsLaid};
+ghost use Rattle.ts_offset.specs.Grid.{IsOnStart, on_starts, IsHeldFrom, held_start};
 ghost use Rattle.ts_base.specs.Moment.{IsStamp};
 
 /// Each on start of a calendar is listed, once, and the later ones stand later.

@@ -1,7 +1,7 @@
 -- Pieces pulled, one behind another.
 use Rattle.std.proofs.Common.{◌≡◌, ℕ, ◌+◌, ◌-◌, ◌^◌, ◌<◌, ◌≤◌, ◌==◌, ◌||◌, Bool, true, false, min, List, [], ◌++◌, take, refl, sym, ◌∙◌, ap, arith, append_assoc}
 use Rattle.std.proofs.lemmas.Bool.{ne_eqb}
-use Rattle.ts_disk.specs.Input.{Input}
+use Rattle.ts_disk.specs.Device.{Input}
 
 -- one pull more
 pub pulls_on : (a b : ℕ) → b ≡ min (a + 1) (2 ^ 64 - 1) → b ≤ a + 1

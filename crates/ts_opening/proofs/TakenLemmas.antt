@@ -1,13 +1,11 @@
 -- A run of what a source asks for: before anything is said it is fair, and good where the volume means its beginning.
 use Rattle.std.proofs.Common.{◌≡◌, ⊎_elim, ℕ, Bool, List, [], sym, ◌∙◌, subst}
 use Rattle.std.proofs.lemmas.List.{append-nil}
-use Rattle.ts_disk.specs.Device.{Device, FirstSync}
-use Rattle.ts_disk.specs.Input.{Input}
-use Rattle.ts_replies.specs.Acknowledged.{Protocol, TellsApart}
+use Rattle.ts_disk.specs.Device.{Device, FirstSync, Input}
+use Rattle.ts_replies.specs.Acknowledged.{Protocol, TellsApart, IsGoodMoment}
 use Rattle.ts_replies.proofs.Steps.{none_good}
 use Rattle.ts_replies.specs.Said.{SaysFairly}
-use Rattle.ts_replies.specs.Good.{IsGoodMoment}
-use Rattle.ts_opening.specs.Taken.{Took, RanFrom}
+use Rattle.ts_opening.specs.Opening.{Took, RanFrom}
 
 module _ {C I : Type 0} (p : Protocol C I) (apart : TellsApart p) where
   -- nothing said is fair

@@ -1,4 +1,3 @@
 pub mod Opening
-pub mod Taken
 pub mod Engine
 pub mod Faults

@@ -1,9 +1,13 @@
--- How the opening of a volume shows in a status.
-use Rattle.std.specs.Prelude.{◌≡◌, ◌≢◌, ◌⊎◌, ℕ, ◌≤◌, Bool, IsTrue}
-use Rattle.ts_disk.specs.Device.{Device, Within, Rose, LeavesAsItWas}
+-- A volume being opened, and what was taken of a source.
+use Rattle.std.specs.Prelude.{◌≡◌, ◌≢◌, ◌⊎◌, ℕ, ◌<◌, ◌≤◌, Bool, IsTrue, List, [], ◌++◌, length}
+use Rattle.ts_disk.specs.Device.{Device, FirstSync, Only, Within, Rose, LeavesAsItWas, Input}
 use Rattle.ts_container.specs.declared.fault.SurveyFault.{SurveyFault}
 use Rattle.ts_container.specs.declared.fault.SurveyFault.TheVariants.{NotAStore, Failed, Memory}
 use Rattle.ts_volume.specs.Volume.{MeansNothing}
+use Rattle.ts_replies.specs.Acknowledged.{Protocol, IsGoodMoment}
+use Rattle.ts_replies.specs.Said.{SaysFairly}
+
+-- How the opening of a volume shows in a status.
 
 -- the status of a volume that is not opened
 abbrev pub status_of_opening : SurveyFault → ℕ
@@ -25,3 +29,38 @@ pub record OpensStore (tells : Bool) (status : ℕ) (v w : Device) : Type 0 wher
   -- the length stays, and no fault is forgotten
   pub size : w.size ≡ v.size
   pub faults : v.faults ≤ w.faults
+
+-- What is taken of a source, and a run of what its bytes ask for.
+
+-- The bytes that were taken from a source, and whether it answered its end: then nothing is left, the limit was kept,
+-- and with these bytes the status may be that of an end.
+pub record Took (limit : ℕ) (IsEnd : List ℕ → ℕ → Type 0) (status : ℕ) (i j : Input) : Type 0 where
+  pub taken : List ℕ
+  pub ended : Bool
+  pub cut : i.left ≡ taken ++ j.left
+  pub end : IsTrue ended → (j.left ≡ []) × (length taken ≤ limit) × IsEnd taken status
+
+-- the bytes that were taken are more than the limit
+pub record TookTooMuch (limit : ℕ) (i j : Input) : Type 0 where
+  pub taken : List ℕ
+  pub cut : i.left ≡ taken ++ j.left
+  pub long : limit < length taken
+
+-- the bytes that were taken keep the limit
+pub record TookEnough (limit : ℕ) (i j : Input) : Type 0 where
+  pub taken : List ℕ
+  pub cut : i.left ≡ taken ++ j.left
+  pub short : length taken ≤ limit
+
+-- What was said and what a stop leaves, over a volume that is opened first. `asked` tells the items of what was taken,
+-- and `from` the state before the first of them.
+pub record RanFrom {C I : Type 0} (p : Protocol C I) (limit : ℕ) (IsEnd : List ℕ → ℕ → Type 0)
+    (asked : Bool → List ℕ → List I) (from : List ℕ → C) (status : ℕ) (v w : Device) (i j : Input) : Type 0 where
+  pub took : Took limit IsEnd status i j
+  pub fair : SaysFairly p (from took.taken) (asked took.ended took.taken) v w
+  -- From the end of the first sync on each moment is good; before it, and in the whole call where no sync answered Ok,
+  -- each is an image of the entry with nothing said.
+  pub moments : FirstSync v w (IsGoodMoment p (from took.taken) (asked took.ended took.taken) v.said)
+  -- where nothing was pending at the entry, each moment of the call is good
+  pub at_rest : Only v.held v.images → (image said : List ℕ) → w.since v.clock image said
+      → IsGoodMoment p (from took.taken) (asked took.ended took.taken) v.said image said

@@ -1,8 +1,7 @@
 //! How a job begins: its volume is opened, and its source is pulled in pieces up to a limit. What keeps a volume from
-//! being opened has a status (`opening.rt`), and every job that opens one shows the same of it (`specs/Opening`); what
-//! was taken of a source, and a run of what its bytes ask for, is `specs/Taken`. Stands on ts_engine, whose
-//! `Engine::start` is the opening, and on ts_carriers for what a run is; knows no statement and no reply. Read
-//! `specs/Taken.antt`, then `specs/Opening.antt`.
+//! being opened has a status (`opening.rt`), and every job that opens one shows the same of it; that, what was taken of
+//! a source, and a run of what its bytes ask for, is `specs/Opening`. Stands on ts_engine, whose `Engine::start` is the
+//! opening, and on ts_carriers for what a run is; knows no statement and no reply. Read `specs/Opening.antt`.
 #![tactic(auto)]
 
 mod opening;

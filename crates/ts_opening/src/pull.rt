@@ -1,6 +1,6 @@
 // Pieces of a source, up to a limit.
 ghost use Rattle.std.specs.Prelude.{◌≡◌, ◌≤◌, ◌<◌, ◌+◌, IfOk, length};
-ghost use Rattle.ts_disk.specs.Input.{Pulled};
+ghost use Rattle.ts_disk.specs.Device.{Pulled};
 
 use ts_disk::{PullFailed, Source};
 

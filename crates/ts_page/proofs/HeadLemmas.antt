@@ -10,7 +10,7 @@ use Rattle.std.proofs.Math.Seq.{take-add}
 use Rattle.std.proofs.lemmas.List.{length-drop}
 use Rattle.ts_page.specs.declared.page.Head.{Head}
 use Rattle.ts_page.specs.declared.page.Head.TheVariants.{Free, Regular, Irregular}
-use Rattle.ts_page.specs.Head.{head_of, head_bytes, bytes_at, are_zero, FitsHead, HasHead}
+use Rattle.ts_page.specs.Pages.{head_of, head_bytes, bytes_at, are_zero, FitsHead, HasHead}
 
 -- what is written over the first bytes of a page is read as its head
 pub head_of-written : (head : Head) (rest : List ℕ) → FitsHead head → head_of (head_bytes head ++ rest) ≡ Some head

@@ -5,8 +5,7 @@ use Rattle.std.proofs.lemmas.Bool.{cases_eq, eq-eqb}
 use Rattle.std.proofs.lemmas.List.{reverse-append, reverse-reverse, length-reverse, length-set, get_or-set_same, get_or-set_other, take_all, take_more}
 use Rattle.std.proofs.lemmas.List.Kept.{AllPairs-from_increasing}
 use Rattle.ts_page.specs.declared.page.Page.{Page}
-use Rattle.ts_page.specs.Head.{zero_page}
-use Rattle.ts_page.specs.Pages.{IsListed, IsLawful, IsElementPage, with_page, page_at, kept}
+use Rattle.ts_page.specs.Pages.{zero_page, IsListed, IsLawful, IsElementPage, with_page, page_at, kept}
 use Rattle.ts_page.proofs.PagesLemmas.{with_other, few_free, lawful_freed, lawful_taken}
 
 pub set_page : (pages : List Page) (changed number : ℕ) (page : Page) → changed < length pages → page_at (set pages changed page) number ≡ with_page changed page.bytes (page_at pages) number

@@ -8,8 +8,7 @@ use Rattle.std.proofs.lemmas.List.Kept.{AllPairs-cons}
 use Rattle.std.proofs.lemmas.Map.Made.{IsDistinct-from_AllPairs}
 use Rattle.std.proofs.lemmas.Map.Steps.{length-le_from_distinct_below}
 use Rattle.std.proofs.lemmas.Map.Views.{Contains-from_any}
-use Rattle.ts_page.specs.Head.{zero_page}
-use Rattle.ts_page.specs.Pages.{Contents, IsListed, IsLawful, IsElementPage, IsFreePage, EqualPages, with_page, SameButFreed, HasFreeHead}
+use Rattle.ts_page.specs.Pages.{zero_page, Contents, IsListed, IsLawful, IsElementPage, IsFreePage, EqualPages, with_page, SameButFreed, HasFreeHead}
 
 pub absent_all : (xs : List ℕ) (n : ℕ) → ¬ Contains xs n → All (λ x. n ≢ x) xs
 absent_all xs n absent k d within is = absent (k, within, get_or_default xs k n d within ∙ sym is)

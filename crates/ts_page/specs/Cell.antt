@@ -1,7 +1,6 @@
 -- The cells of an element page, which follow its head one after the other.
 use Rattle.std.specs.Prelude.{ℕ, ◌+◌, ◌*◌, List, ◌++◌, length, take, drop}
-use Rattle.ts_page.specs.Volume.{head_size}
-use Rattle.ts_page.specs.Head.{bytes_at}
+use Rattle.ts_page.specs.Pages.{head_size, bytes_at}
 
 -- where the cell of that number begins
 abbrev pub cell_place : ℕ → ℕ → ℕ

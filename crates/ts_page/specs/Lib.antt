@@ -1,5 +1,3 @@
-pub mod Volume
-pub mod Head
 pub mod Cell
 pub mod Pages
 pub mod Unchanged

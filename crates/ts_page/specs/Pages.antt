@@ -1,13 +1,101 @@
--- Pages by their numbers, and what each call on a keeper of pages does to them.
-use Rattle.std.specs.Prelude.{◌≡◌, ◌≢◌, ◌⊎◌, ℕ, ◌+◌, ◌<◌, ◌≤◌, ◌==◌, ◌&&◌, nat_le, if◌then◌else◌, Bool, true, IsTrue}
-use Rattle.std.specs.Prelude.{List, [], ◌∷◌, All, AllPairs, length, take, replicate, slice_index, slice_index_or}
-use Rattle.std.specs.Prelude.{Result, OnOk, OnErr, IsErrOf}
+-- The pages of a volume: its layout in numbers, the first bytes of an element page, and what pages hold.
+use Rattle.std.specs.Prelude.{ℕ, ◌+◌, ◌<◌, ◌≤◌, ◌^◌, Bool, true, IsTrue, ◌&&◌, nat_le, ◌==◌, if◌then◌else◌, Option}
+use Rattle.std.specs.Prelude.{Some, None, List, [], ◌∷◌, All, AllPairs, length, ◌++◌, ◌≡◌, ◌≢◌, ◌⊎◌, take, drop}
+use Rattle.std.specs.Prelude.{replicate, slice_index, slice_index_or, Result, OnOk, OnErr, IsErrOf}
+use Rattle.std.specs.Int.{from_be_bytes, to_be_bytes, w16, w64}
+use Rattle.std.specs.List.{list_all}
+use Rattle.ts_disk.specs.Device.{Rose}
 use Rattle.ts_base.specs.declared.fault.StoreFault.{StoreFault}
 use Rattle.ts_base.specs.declared.fault.StoreFault.TheVariants.{Failed}
-use Rattle.ts_disk.specs.Device.{Rose}
 use Rattle.ts_page.specs.declared.page.Page.{Page}
-use Rattle.ts_page.specs.Volume.{head_size, last_region_page, first_element_page, image_entry_size, free_entry_size}
-use Rattle.ts_page.specs.Head.{zero_page}
+use Rattle.ts_page.specs.declared.page.Head.{Head}
+use Rattle.ts_page.specs.declared.page.Head.TheVariants.{Free, Regular, Irregular}
+
+-- The numbers of a volume's layout, which clauses and definitions of each layer import.
+
+-- how many bytes a page has
+abbrev pub page_size : ℕ
+page_size = 4096
+
+-- how many of them are the head of an element page
+abbrev pub head_size : ℕ
+head_size = 32
+
+-- the last of the journal's pages, which begin at 1
+abbrev pub last_region_page : ℕ
+last_region_page = 256
+
+-- where the journal's region begins in a volume
+abbrev pub region_start : ℕ
+region_start = 4096
+
+-- how many bytes it has
+abbrev pub region_size : ℕ
+region_size = 1048576
+
+-- the pages from this one on hold elements; before it stand as many others
+abbrev pub first_element_page : ℕ
+first_element_page = 930
+
+-- how many of them a volume has at most
+abbrev pub most_element_pages : ℕ
+most_element_pages = 65536
+
+-- how many bytes of a journal's record a page needs that is given other bytes: five and its image
+abbrev pub image_entry_size : ℕ
+image_entry_size = 4101
+
+-- and one that is freed
+abbrev pub free_entry_size : ℕ
+free_entry_size = 5
+
+-- The head of an element page: its first 32 bytes. A page whose first byte is 0 is free, whatever follows.
+
+-- the bytes of a page of zeros
+unfoldable pub zero_page : List ℕ
+zero_page = replicate page_size 0
+
+-- each byte is 0
+abbrev pub are_zero : List ℕ → Bool
+are_zero = list_all (λ byte. byte == 0)
+
+-- so many bytes from this place on
+abbrev pub bytes_at : ℕ → ℕ → List ℕ → List ℕ
+bytes_at at n page = take n (drop at page)
+
+-- The bytes of a head: its kind, the slot of its series in two bytes, the number of its elements in two, for a
+-- regular page the offset of its first cell in eight, and zeros.
+abbrev pub head_bytes : Head → List ℕ
+head_bytes Free = replicate head_size 0
+head_bytes (Regular series count base) =
+    1 ∷ to_be_bytes w16 series ++ to_be_bytes w16 count ++ to_be_bytes w64 base ++ replicate 19 0
+head_bytes (Irregular series count) =
+    2 ∷ to_be_bytes w16 series ++ to_be_bytes w16 count ++ replicate 27 0
+
+-- each number of a head fits its bytes
+abbrev pub FitsHead : Head → Type 0
+FitsHead Free = Unit {0}
+FitsHead (Regular series count base) = (series < 2 ^ 16) × (count < 2 ^ 16) × (base < 2 ^ 64)
+FitsHead (Irregular series count) = (series < 2 ^ 16) × (count < 2 ^ 16)
+
+-- the head that a page begins with, if it begins with one
+abbrev pub head_of : List ℕ → Option Head
+head_of page =
+    let kind = slice_index page 0 in
+    let series = from_be_bytes w16 (bytes_at 1 2 page) in
+    let count = from_be_bytes w16 (bytes_at 3 2 page) in
+    if kind == 0 then Some Free
+    else (if (kind == 1) && are_zero (bytes_at 13 19 page)
+    then Some (Regular series count (from_be_bytes w64 (bytes_at 5 8 page)))
+    else (if (kind == 2) && are_zero (bytes_at 5 27 page) then Some (Irregular series count) else None))
+
+-- the page begins with this head as it is written; a free one is told by its first byte alone
+abbrev pub HasHead : List ℕ → Head → Type 0
+HasHead page Free = slice_index page 0 ≡ 0
+HasHead page (Regular series count base) = take head_size page ≡ head_bytes (Regular series count base)
+HasHead page (Irregular series count) = take head_size page ≡ head_bytes (Irregular series count)
+
+-- Pages by their numbers, and what each call on a keeper of pages does to them.
 
 -- All that is meant by a keeper of pages between two calls. What is not told is anything.
 pub record Contents : Type 0 where

@@ -1,7 +1,7 @@
 // Numbers in a page's bytes, the most significant byte first.
 ghost use Rattle.std.specs.Prelude.{◌≡◌, ◌+◌, ◌≤◌, length, take, drop};
 ghost use Rattle.std.specs.Int.{from_be_bytes, w16, w64};
-ghost use Rattle.ts_page.specs.Head.{are_zero};
+ghost use Rattle.ts_page.specs.Pages.{are_zero};
 
 pub(crate) fn two_bytes(bytes: &[u8], at: usize) -> u16
     requires { at + 2 ≤ length bytes.now }

@@ -1,8 +1,7 @@
 // What holds of the bytes of every page.
 ghost use Rattle.std.specs.Prelude.{◌≡◌, ◌<◌, ℕ, List, length, slice_index, Some};
-ghost use Rattle.ts_page.specs.Volume.{page_size};
+ghost use Rattle.ts_page.specs.Pages.{page_size, head_of, FitsHead, HasHead};
 ghost use Rattle.ts_page.specs.declared.page.Head.{Head as TheHead};
-ghost use Rattle.ts_page.specs.Head.{head_of, FitsHead, HasHead};
 
 /// What a page's head is read as is one that is written so, and one that is written so is read as it.
 pub fn a_head_is_read_as_it_is_written()

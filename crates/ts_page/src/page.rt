@@ -1,7 +1,6 @@
 // A page, its head and its cells.
 ghost use Rattle.std.specs.Prelude.{◌≡◌, ◌+◌, ◌*◌, ◌≤◌, length, drop, Some, ◌++◌};
-ghost use Rattle.ts_page.specs.Volume.{page_size, head_size};
-ghost use Rattle.ts_page.specs.Head.{head_of, head_bytes, FitsHead, zero_page};
+ghost use Rattle.ts_page.specs.Pages.{page_size, head_size, head_of, head_bytes, FitsHead, zero_page};
 ghost use Rattle.ts_page.specs.Cell.{cell_of, with_cell};
 
 use crate::field::{are_zero, eight_bytes, two_bytes};

@@ -1,4 +1,4 @@
-// The numbers of a volume's layout, each here alone; `specs/Volume` has them for clauses.
+// The numbers of a volume's layout, each here alone; `specs/Pages` has them for clauses.
 
 /// How many bytes a page has, and how many of them are the head of an element page.
 pub const PAGE: u64 = 4096;

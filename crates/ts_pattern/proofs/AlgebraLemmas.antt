@@ -6,10 +6,7 @@ use Rattle.std.proofs.lemmas.Nat.{div-mul-add}
 use Rattle.ts_base.specs.declared.unit.Unit as unit
 use Rattle.ts_pattern.specs.declared.run.Run.{Run}
 use Rattle.ts_pattern.specs.declared.junction.Junction.{Junction}
-use Rattle.ts_pattern.specs.Plan.{Plan}
-use Rattle.ts_pattern.specs.Runs.{total, flag_at, flag, later_flag, runs_of, scaled, turned}
-use Rattle.ts_pattern.specs.Units.{factor}
-use Rattle.ts_pattern.specs.Algebra.{joined, joined_flag, expanded_flag}
+use Rattle.ts_pattern.specs.Patterns.{Plan, total, flag_at, flag, later_flag, runs_of, scaled, turned, factor, joined, joined_flag, expanded_flag}
 use Rattle.ts_pattern.specs.Line.{side_by_side}
 use Rattle.ts_pattern.proofs.RunLemmas.{lt_yes, lt_no, total-cons}
 use Rattle.ts_pattern.proofs.TurnLemmas.{total-turned, flag_at-turned}

@@ -4,7 +4,7 @@ use Rattle.std.proofs.lemmas.Bool.{and_parts, ltb-true}
 use Rattle.std.proofs.lemmas.Bool.Decides.{nat_tests}
 use Rattle.std.proofs.lemmas.Nat.{mod-mul-add}
 use Rattle.ts_pattern.specs.declared.run.Run.{Run}
-use Rattle.ts_pattern.specs.Runs.{total, flag_at, later_flag, are_merged, is_pattern, differs_from}
+use Rattle.ts_pattern.specs.Patterns.{total, flag_at, later_flag, are_merged, is_pattern, differs_from}
 use Rattle.ts_pattern.proofs.RunLemmas.{lt_yes, lt_no, total-cons}
 
 -- a step that stays within a cycle

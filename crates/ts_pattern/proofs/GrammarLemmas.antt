@@ -3,12 +3,11 @@ use Rattle.std.proofs.Common.{◌≡◌, ◌<◌, ◌^◌, ◌++◌, true, ◌&&
 use Rattle.std.proofs.lemmas.Bool.{and_parts}
 use Rattle.std.specs.List.{AllByRecursion}
 use Rattle.ts_base.specs.declared.unit.Unit.TheVariants.{Day}
-use Rattle.ts_text.specs.Phrase.{behind, closed}
-use Rattle.ts_text.specs.Plain.{plain_front}
+use Rattle.ts_text.specs.Phrase.{behind, closed, plain_front}
 use Rattle.ts_text.specs.declared.token.TokenKind.TheVariants.{Word, Number}
 use Rattle.ts_text.proofs.CallerLemmas.{Yields, Shrinks, shrinks_of, chain, given, Any, of_token, behind_yields, closed_yields, plain_laws, plain_sign}
 use Rattle.ts_pattern.specs.declared.run.Run.{Run}
-use Rattle.ts_pattern.specs.Grammar.{flag_as, flag_in, unit_as, unit_in, count_as, count_in, run_in, runs_in, pattern_in, are_counts}
+use Rattle.ts_pattern.specs.Patterns.{flag_as, flag_in, unit_as, unit_in, count_as, count_in, run_in, runs_in, pattern_in, are_counts}
 use Rattle.ts_pattern.proofs.RunLemmas.{lt_yes}
 
 -- a further count

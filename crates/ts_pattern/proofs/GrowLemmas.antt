@@ -2,11 +2,10 @@
 use Rattle.std.proofs.Common.{◌≡◌, ℕ, zero, suc, ◌+◌, ◌-◌, ◌<◌, ◌≤◌, inl, inr, Bool, true, false, ◌&&◌, List, [], ◌∷◌, ◌++◌, length, refl, sym, ap, ◌∙◌, arith, slice_get, slice_set, Some, None, Option, ◌≢◌, nat_lt}
 use Rattle.std.proofs.lemmas.Bool.{and_parts, cases_Bool, ltb-true}
 use Rattle.ts_pattern.specs.declared.run.Run.{Run}
-use Rattle.ts_pattern.specs.Runs.{run, total, flag_at, later_flag, same_flag, with_flag, runs_from, runs_of, are_merged, is_pattern, differs_from}
+use Rattle.ts_pattern.specs.Patterns.{run, total, flag_at, later_flag, same_flag, with_flag, runs_from, runs_of, are_merged, is_pattern, differs_from, joined}
 use Rattle.std.proofs.lemmas.Bool.Decides.{nat_tests}
 use Rattle.ts_pattern.proofs.JoinLemmas.{total-runs_from, are_merged-runs_from}
 use Rattle.ts_pattern.specs.Growth.{extended, ends_on}
-use Rattle.ts_pattern.specs.Algebra.{joined}
 use Rattle.ts_pattern.specs.Line.{side_by_side}
 use Rattle.ts_pattern.specs.declared.junction.Junction.{Junction}
 use mathlib.Core.Bool.{beq}

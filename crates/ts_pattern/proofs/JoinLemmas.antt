@@ -2,7 +2,7 @@
 use Rattle.std.proofs.Common.{◌≡◌, ℕ, zero, suc, ◌+◌, ◌-◌, ◌<◌, inl, inr, Bool, true, false, ◌&&◌, List, [], ◌∷◌, refl, sym, ◌∙◌, arith, nat_lt}
 use Rattle.std.proofs.lemmas.Bool.{and_parts, cases_lt, cases_Bool}
 use Rattle.ts_pattern.specs.declared.run.Run.{Run}
-use Rattle.ts_pattern.specs.Runs.{run, total, flag_at, same_flag, differs_from, are_merged, with_flag, runs_from}
+use Rattle.ts_pattern.specs.Patterns.{run, total, flag_at, same_flag, differs_from, are_merged, with_flag, runs_from}
 use Rattle.ts_pattern.proofs.RunLemmas.{lt_yes, lt_no, total-cons}
 
 same_flag-true : (a b : Bool) → same_flag a b ≡ true → a ≡ b

@@ -2,9 +2,8 @@
 use Rattle.std.proofs.Common.{◌≡◌, ℕ, zero, suc, ◌+◌, ◌<◌, ◌^◌, true, ◌&&◌, nat_lt, List, [], ◌∷◌, take, length, refl, ap, ◌∙◌, arith, Some, slice_get, slice_index_or}
 use Rattle.std.proofs.lemmas.Bool.{and_parts, ltb-true}
 use Rattle.ts_pattern.specs.declared.run.Run.{Run}
-use Rattle.ts_pattern.specs.Runs.{total, flag_at, runs_of}
+use Rattle.ts_pattern.specs.Patterns.{total, flag_at, runs_of, are_counts}
 use Rattle.ts_pattern.specs.Growth.{extended}
-use Rattle.ts_pattern.specs.Grammar.{are_counts}
 use Rattle.ts_pattern.proofs.RunLemmas.{total-cons}
 use Rattle.ts_pattern.proofs.CursorLemmas.{flag_at-run, total-take-next}
 use Rattle.ts_pattern.proofs.GrowLemmas.{runs_from-extended}

@@ -5,7 +5,7 @@ use Rattle.std.proofs.Math.Nat.{mod-add-div', mul-le-mul_right, le_of_mul-le-mul
 use Rattle.std.proofs.lemmas.Nat.Gcd.{mod-eq-zero_of_dvd, dvd_of_mod-eq-zero, le_of_dvd}
 use Rattle.std.proofs.lemmas.Bool.{and_parts, cases_Bool, cases_lt}
 use Rattle.std.proofs.lemmas.Bool.Decides.{nat_tests}
-use Rattle.ts_pattern.specs.Multiples.{is_common_multiple, common_multiple_from, least_common_multiple}
+use Rattle.ts_pattern.specs.Patterns.{is_common_multiple, common_multiple_from, least_common_multiple}
 
 -- a common multiple is one by both divisions
 pub common_yes : (a b k : ℕ) → a ∣ k → b ∣ k → is_common_multiple a b k ≡ true

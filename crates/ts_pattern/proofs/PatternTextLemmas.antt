@@ -8,19 +8,16 @@ use Rattle.std.proofs.lemmas.Bool.{and_parts, cases_Bool}
 use Rattle.std.proofs.lemmas.Bool.Decides.{nat_tests}
 use Rattle.std.proofs.lemmas.Slice.Eq.{bytes_eq-Decides}
 use Rattle.ts_base.specs.Name.{is_word}
-use Rattle.ts_base.specs.StampText.{all_digits, number_of}
+use Rattle.ts_base.specs.Moment.{all_digits, number_of}
 use Rattle.ts_base.specs.declared.unit.Unit as unit
 use Rattle.ts_base.specs.declared.unit.Unit.TheVariants.{Second, Minute, Hour, Day, Week, Month, Year}
 use Rattle.ts_text.specs.Parted.{IsParted}
-use Rattle.ts_text.specs.Phrase.{Read, go_on, ◌>>=◌, give, a_sign, behind, closed, the_end, ended, outcome}
-use Rattle.ts_text.specs.Plain.{plain_front}
+use Rattle.ts_text.specs.Phrase.{Read, go_on, ◌>>=◌, give, a_sign, behind, closed, the_end, ended, outcome, plain_front}
 use Rattle.ts_text.specs.declared.token.TokenKind.{TokenKind}
 use Rattle.ts_text.specs.declared.token.TokenKind.TheVariants.{Word as TheWord, Number, Text, Sign}
 use Rattle.ts_text.proofs.CallerLemmas.{plain_laws, word_stands, digits_stand, bind-ok, pair-parts, parted-token, token-found, token-read, sign-found, sign-read, ends-token, digits-end, StopsWord, stops-word, end-found, end-read, IsListed, listed_found, listed_read}
 use Rattle.ts_pattern.specs.declared.run.Run.{Run}
-use Rattle.ts_pattern.specs.Plan.{Plan}
-use Rattle.ts_pattern.specs.Runs.{run}
-use Rattle.ts_pattern.specs.Grammar.{flag_of_word, unit_among, unit_of_word, unit_name, flag_as, flag_in, unit_as, unit_in, is_count, count_as, count_in, run_in, runs_in, pattern_in, written_plan}
+use Rattle.ts_pattern.specs.Patterns.{Plan, run, flag_of_word, unit_among, unit_of_word, unit_name, flag_as, flag_in, unit_as, unit_in, is_count, count_as, count_in, run_in, runs_in, pattern_in, written_plan}
 use Rattle.ts_pattern.specs.Spelling.{Word, flag_word, runs_before, pattern_before, run_of, AreRuns, IsPatternText}
 use Rattle.ts_pattern.proofs.GrammarLemmas.{run_shrinks}
 

@@ -11,11 +11,8 @@ use Rattle.ts_base.specs.declared.unit.Unit as unit
 use Rattle.ts_base.specs.declared.unit.Unit.TheVariants.{Second, Minute, Hour, Day, Week, Month, Year}
 use Rattle.ts_pattern.specs.declared.run.Run.{Run}
 use Rattle.ts_pattern.specs.declared.junction.Junction.{Junction}
-use Rattle.ts_pattern.specs.Plan.{Plan}
-use Rattle.ts_pattern.specs.Runs.{total, flag_at, flag, runs_of, are_merged, is_pattern, differs_from, same_flag, scaled}
-use Rattle.ts_pattern.specs.Units.{size, is_monthly, factor, is_made_of, smaller_unit}
+use Rattle.ts_pattern.specs.Patterns.{Plan, total, flag_at, flag, runs_of, are_merged, is_pattern, differs_from, same_flag, scaled, size, is_monthly, factor, is_made_of, smaller_unit, plan_of_flags, expanded_flag, expanded_plan, joined_flag, joined_length, joined_in, joined_plan}
 use Rattle.ts_base.specs.Answer.{Answers}
-use Rattle.ts_pattern.specs.Algebra.{plan_of_flags, expanded_flag, expanded_plan, joined_flag, joined_length, joined_in, joined_plan}
 use Rattle.ts_pattern.proofs.RunLemmas.{lt_yes, lt_no}
 use Rattle.ts_pattern.proofs.CursorLemmas.{pattern-merged}
 use Rattle.ts_pattern.proofs.JoinLemmas.{total-runs_from}

@@ -7,13 +7,11 @@ use Rattle.std.proofs.lemmas.Bool.Decides.{nat_tests}
 use Rattle.std.proofs.lemmas.List.{append-nil}
 use Rattle.std.proofs.lemmas.Str.Parse.{IsNumeralModel, numerals_by_fold}
 use Rattle.std.proofs.lemmas.Fmt.{digits_decimal, digits_value-decimal, decimal_nonempty, length-decimal-le}
-use Rattle.ts_base.specs.StampText.{all_digits, number_of, with_digit}
+use Rattle.ts_base.specs.Moment.{all_digits, number_of, with_digit}
 use Rattle.ts_text.specs.Parted.{IsParted}
 use Rattle.ts_text.proofs.CallerLemmas.{parted-here, parted-space}
 use Rattle.ts_pattern.specs.declared.run.Run.{Run}
-use Rattle.ts_pattern.specs.Plan.{Plan}
-use Rattle.ts_pattern.specs.Runs.{total, flag_at, runs_of, are_merged, is_pattern, differs_from}
-use Rattle.ts_pattern.specs.Grammar.{is_count, are_counts, unit_name, written_plan, plan_of_written, plan_or_place, read_plan, printed_run, printed_runs, printed_plan}
+use Rattle.ts_pattern.specs.Patterns.{Plan, total, flag_at, runs_of, are_merged, is_pattern, differs_from, is_count, are_counts, unit_name, written_plan, plan_of_written, plan_or_place, read_plan, printed_run, printed_runs, printed_plan}
 use Rattle.ts_pattern.specs.Spelling.{Word, flag_word, runs_before, pattern_before, run_of, AreRuns}
 use Rattle.ts_pattern.proofs.GrowLemmas.{runs_from-merged}
 use Rattle.ts_pattern.proofs.PlanLemmas.{tested, plan-fits}

@@ -3,7 +3,7 @@ use Rattle.std.proofs.Common.{◌≡◌, ℕ, ◌+◌, ◌-◌, ◌<◌, ◌≤�
 use Rattle.std.proofs.lemmas.Bool.Decides.{nat_tests}
 use Rattle.std.proofs.lemmas.List.Sums.{sum_by-cons}
 use Rattle.ts_pattern.specs.declared.run.Run.{Run}
-use Rattle.ts_pattern.specs.Runs.{run, total, flag_at, differs_from, are_merged}
+use Rattle.ts_pattern.specs.Patterns.{run, total, flag_at, differs_from, are_merged}
 
 pub lt_yes : (a b : ℕ) → a < b → nat_lt a b ≡ true
 lt_yes a b h = grind (arith, nat_tests)

@@ -2,7 +2,7 @@
 use Rattle.std.proofs.Common.{◌≡◌, ℕ, suc, ◌-◌, ◌<◌, inl, inr, Bool, true, false, not, List, [], ◌∷◌, length, map, refl, ap, arith}
 use Rattle.std.proofs.lemmas.Bool.{cases_lt}
 use Rattle.ts_pattern.specs.declared.run.Run.{Run}
-use Rattle.ts_pattern.specs.Runs.{total, flag_at, same_flag, turned, differs_from, are_merged, is_pattern}
+use Rattle.ts_pattern.specs.Patterns.{total, flag_at, same_flag, turned, differs_from, are_merged, is_pattern}
 use Rattle.ts_pattern.proofs.RunLemmas.{lt_yes, lt_no, total-cons}
 
 pub total-turned : (rs : List Run) → total (map turned rs) ≡ total rs

@@ -1,7 +1,7 @@
 -- Merged runs that grow at their end.
 use Rattle.std.specs.Prelude.{ℕ, ◌+◌, Bool, false, if◌then◌else◌, List, [], ◌∷◌}
 use Rattle.ts_pattern.specs.declared.run.Run.{Run}
-use Rattle.ts_pattern.specs.Runs.{run, same_flag}
+use Rattle.ts_pattern.specs.Patterns.{run, same_flag}
 
 -- merged runs with further intervals of one flag at their end
 abbrev pub extended : List Run → Bool → ℕ → List Run

@@ -1,9 +1,4 @@
-pub mod Plan
-pub mod Runs
-pub mod Units
-pub mod Multiples
-pub mod Algebra
+pub mod Patterns
 pub mod Growth
 pub mod Line
-pub mod Grammar
 pub mod Spelling

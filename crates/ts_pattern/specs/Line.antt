@@ -2,8 +2,7 @@
 use Rattle.std.specs.Prelude.{ℕ, ◌+◌, Bool, List}
 use Rattle.ts_pattern.specs.declared.run.Run.{Run}
 use Rattle.ts_pattern.specs.declared.junction.Junction.{Junction}
-use Rattle.ts_pattern.specs.Runs.{later_flag}
-use Rattle.ts_pattern.specs.Algebra.{joined}
+use Rattle.ts_pattern.specs.Patterns.{later_flag, joined}
 
 -- the joined flag k intervals after a place in each
 abbrev pub side_by_side : Junction → List Run → ℕ → List Run → ℕ → ℕ → Bool

@@ -1,13 +1,11 @@
 -- Which tokens are a pattern's.
 use Rattle.std.specs.Prelude.{◌≡◌, ℕ, ◌<◌, Bool, if◌then◌else◌, List, [], ◌∷◌, length, map, codes, true}
 use Rattle.std.specs.List.{list_all}
-use Rattle.ts_base.specs.StampText.{number_of}
+use Rattle.ts_base.specs.Moment.{number_of}
 use Rattle.ts_base.specs.declared.unit.Unit as unit
 use Rattle.ts_text.specs.Parted.{IsParted}
 use Rattle.ts_pattern.specs.declared.run.Run.{Run}
-use Rattle.ts_pattern.specs.Plan.{Plan}
-use Rattle.ts_pattern.specs.Runs.{run}
-use Rattle.ts_pattern.specs.Grammar.{unit_name, is_count}
+use Rattle.ts_pattern.specs.Patterns.{Plan, run, unit_name, is_count}
 
 -- a run as a text has it: the digits of a count, and on or off
 pub record Word : Type 0 where

@@ -1,6 +1,6 @@
 ghost use Rattle.std.specs.Prelude.{◌≡◌, ℕ, ◌+◌, ◌*◌, ◌%◌, ◌^◌, ◌<◌, ◌≤◌, length, take, slice_get, Some, IsTrue};
 ghost use Rattle.std.specs.Prelude.{IsSome};
-ghost use Rattle.ts_pattern.specs.Runs.{total, later_flag, is_pattern};
+ghost use Rattle.ts_pattern.specs.Patterns.{total, later_flag, is_pattern};
 ghost use Rattle.ts_pattern.specs.declared.run.Run.{Run};
 
 use crate::Run;

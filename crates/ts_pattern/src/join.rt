@@ -1,8 +1,7 @@
 // The runs of two rows of runs that are joined, from run end to run end.
 ghost use Rattle.std.specs.Prelude.{◌≡◌, ℕ, ◌+◌, ◌*◌, ◌%◌, ◌^◌, ◌<◌, ◌≤◌, ◌↔◌, length as count_of, take, slice_get};
 ghost use Rattle.std.specs.Prelude.{sum_by, Some, IsTrue, IsSome, IfSome, IfOk, OnOk, OnErr};
-ghost use Rattle.ts_pattern.specs.Runs.{total, is_pattern, runs_of, run};
-ghost use Rattle.ts_pattern.specs.Algebra.{joined};
+ghost use Rattle.ts_pattern.specs.Patterns.{total, is_pattern, runs_of, run, joined};
 ghost use Rattle.ts_pattern.specs.Growth.{extended, ends_on};
 ghost use Rattle.ts_pattern.specs.Line.{side_by_side};
 

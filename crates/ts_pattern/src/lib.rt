@@ -1,8 +1,7 @@
 //! Patterns: runs of intervals that are on or off, repeated without end. What contracts see of a pattern is its unit
-//! and its merged runs (`specs/Plan`); NOT, AND, OR and the change to a smaller unit are exact at every interval
-//! (`specs/Algebra`), within 527040 intervals and 512 runs. The code goes from run end to run end and never writes
-//! the flags out. Stands on ts_text and ts_base; knows nothing of dates. Read `specs/Runs.antt`, `specs/Algebra.antt`,
-//! then `pattern.rt`.
+//! and its merged runs; NOT, AND, OR and the change to a smaller unit are exact at every interval (`specs/Patterns`),
+//! within 527040 intervals and 512 runs. The code goes from run end to run end and never writes the flags out. Stands
+//! on ts_text and ts_base; knows nothing of dates. Read `specs/Patterns.antt`, then `pattern.rt`.
 #![tactic(auto)]
 
 mod cursor;

@@ -1,6 +1,6 @@
 ghost use Rattle.std.specs.Prelude.{◌≡◌, ◌<◌, ◌≤◌};
 ghost use Rattle.std.specs.Int.{IsGcd};
-ghost use Rattle.ts_pattern.specs.Multiples.{least_common_multiple};
+ghost use Rattle.ts_pattern.specs.Patterns.{least_common_multiple};
 
 // The least common multiple of two positive numbers.
 pub(crate) fn common_multiple(a: u64, b: u64) -> u128

@@ -1,9 +1,9 @@
 ghost use Rattle.std.specs.Prelude.{◌≡◌, ℕ, ◌+◌, ◌-◌, ◌*◌, ◌/◌, ◌<◌, ◌≤◌, ◌↔◌, not, length, IsTrue, IsSome, IfSome};
 ghost use Rattle.std.specs.Prelude.{IfOk, Ok, map, ℤ, pos, unsigned_abs};
 ghost use Rattle.std.specs.Int.{int_rem_euclid};
-ghost use Rattle.ts_pattern.specs.Runs.{total, flag_at, flag, is_pattern, turned, scaled};
+ghost use Rattle.ts_pattern.specs.Patterns.{total, flag_at, flag, is_pattern, turned, scaled, plan_of_flags};
+ghost use Rattle.ts_pattern.specs.Patterns.{joined_flag, joined_length};
 ghost use Rattle.ts_base.specs.Answer.{Answers};
-ghost use Rattle.ts_pattern.specs.Algebra.{plan_of_flags, joined_flag, joined_length};
 ghost use Rattle.ts_pattern.specs.Line.{side_by_side};
 ghost use Rattle.ts_base.specs.declared.refusal.Refusal.{Refusal};
 ghost use Rattle.ts_base.specs.declared.fault.Trouble.{Trouble};
@@ -33,8 +33,7 @@ pub struct Pattern {
 
 impl Model for Pattern {
     ghost use Rattle.std.specs.Prelude.{◌≡◌, ◌≤◌, ◌<◌, length, IsTrue};
-    ghost use Rattle.ts_pattern.specs.Plan.{Plan};
-    ghost use Rattle.ts_pattern.specs.Runs.{total, is_pattern};
+    ghost use Rattle.ts_pattern.specs.Patterns.{Plan, total, is_pattern};
 
     ghost Value = { Plan };
 
@@ -44,9 +43,8 @@ impl Model for Pattern {
 }
 
 impl Pattern {
-    ghost use Rattle.ts_pattern.specs.Runs.{has_on};
-    ghost use Rattle.ts_pattern.specs.Units.{factor, is_made_of, smaller_unit};
-    ghost use Rattle.ts_pattern.specs.Algebra.{expanded_plan, joined_plan, expanded_flag};
+    ghost use Rattle.ts_pattern.specs.Patterns.{has_on, factor, is_made_of, smaller_unit, expanded_plan, joined_plan};
+    ghost use Rattle.ts_pattern.specs.Patterns.{expanded_flag};
     ghost use Rattle.ts_pattern.specs.declared.junction.Junction.TheVariants.{And, Or};
 
     /// The pattern of merged runs.

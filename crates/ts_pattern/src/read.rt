@@ -3,8 +3,8 @@ ghost use Rattle.std.specs.Prelude.{◌≡◌, ◌+◌, ◌^◌, ◌<◌, ◌≤
 ghost use Rattle.ts_text.specs.Misfit.{Refuses, RefusesExactly};
 ghost use Rattle.ts_text.specs.Phrase.{ended, repeated, onto};
 ghost use Rattle.ts_text.specs.declared.token.TokenKind.TheVariants.{Number};
-ghost use Rattle.ts_pattern.specs.Grammar.{are_counts, count_as};
-ghost use Rattle.ts_pattern.specs.Grammar;
+ghost use Rattle.ts_pattern.specs.Patterns.{are_counts, count_as};
+ghost use Rattle.ts_pattern.specs.Patterns;
 
 use crate::Run;
 use std::alloc::Global;
@@ -15,7 +15,7 @@ use ts_text::{
 };
 
 fn flag_of_word(word: &[u8]) -> Option<bool>
-    ensures { result ≡ Grammar.flag_of_word word.now }
+    ensures { result ≡ Patterns.flag_of_word word.now }
 {
     if word == b"on".as_slice() {
         return Some(true);
@@ -28,7 +28,7 @@ fn flag_of_word(word: &[u8]) -> Option<bool>
 }
 
 fn unit_of_word(word: &[u8]) -> Option<Unit>
-    ensures { result ≡ Grammar.unit_of_word word.now }
+    ensures { result ≡ Patterns.unit_of_word word.now }
 {
     if word == b"second".as_slice() {
         return Some(Unit::Second);
@@ -56,10 +56,10 @@ fn unit_of_word(word: &[u8]) -> Option<Unit>
 }
 
 // On or off.
-#[tactic(auto, unfolding(crate::specs::Grammar::flag_in))]
+#[tactic(auto, unfolding(crate::specs::Patterns::flag_in))]
 fn flag_in(text: &[u8]) -> Result<(bool, &[u8]), Misfit>
-    ensures ok { IfOk result (λ x. Grammar.flag_in text.now ≡ Ok (x.0, x.1.now)) }
-    ensures cause { IfErr result (λ misfit. RefusesExactly misfit (Grammar.flag_in text.now)) }
+    ensures ok { IfOk result (λ x. Patterns.flag_in text.now ≡ Ok (x.0, x.1.now)) }
+    ensures cause { IfErr result (λ misfit. RefusesExactly misfit (Patterns.flag_in text.now)) }
     ensures shorter { IfOk result (λ x. length x.1.now ≤ length text.now) }
 {
     let here = skip_blanks(text);
@@ -72,10 +72,10 @@ fn flag_in(text: &[u8]) -> Result<(bool, &[u8]), Misfit>
     Err(Misfit::here(here))
 }
 
-#[tactic(auto, unfolding(crate::specs::Grammar::unit_in))]
+#[tactic(auto, unfolding(crate::specs::Patterns::unit_in))]
 fn unit_in(text: &[u8]) -> Result<(Unit, &[u8]), Misfit>
-    ensures ok { IfOk result (λ x. Grammar.unit_in text.now ≡ Ok (x.0, x.1.now)) }
-    ensures cause { IfErr result (λ misfit. RefusesExactly misfit (Grammar.unit_in text.now)) }
+    ensures ok { IfOk result (λ x. Patterns.unit_in text.now ≡ Ok (x.0, x.1.now)) }
+    ensures cause { IfErr result (λ misfit. RefusesExactly misfit (Patterns.unit_in text.now)) }
 {
     let here = skip_blanks(text);
     if let Some((TokenKind::Word, length)) = plain_front(here) {
@@ -88,10 +88,10 @@ fn unit_in(text: &[u8]) -> Result<(Unit, &[u8]), Misfit>
 }
 
 // A number of 1 to 9 digits that isn't 0.
-#[tactic(auto, unfolding(crate::specs::Grammar::count_in))]
+#[tactic(auto, unfolding(crate::specs::Patterns::count_in))]
 fn count_in(text: &[u8]) -> Result<(u32, &[u8]), Misfit>
-    ensures ok { IfOk result (λ x. Grammar.count_in text.now ≡ Ok (x.0, x.1.now)) }
-    ensures cause { IfErr result (λ misfit. RefusesExactly misfit (Grammar.count_in text.now)) }
+    ensures ok { IfOk result (λ x. Patterns.count_in text.now ≡ Ok (x.0, x.1.now)) }
+    ensures cause { IfErr result (λ misfit. RefusesExactly misfit (Patterns.count_in text.now)) }
     ensures shorter { IfOk result (λ x. length x.1.now ≤ length text.now) }
     ensures range { IfOk result (λ x. (0 < x.0) × (x.0 < 10 ^ 9)) }
 {
@@ -118,10 +118,10 @@ fn count_of(digits: &[u8]) -> Option<u32>
 }
 
 // A count and a flag.
-#[tactic(auto, unfolding(crate::specs::Grammar::run_in))]
+#[tactic(auto, unfolding(crate::specs::Patterns::run_in))]
 fn run_in(text: &[u8]) -> Result<(Run, &[u8]), Misfit>
-    ensures ok { IfOk result (λ x. Grammar.run_in text.now ≡ Ok (x.0, x.1.now)) }
-    ensures cause { IfErr result (λ misfit. RefusesExactly misfit (Grammar.run_in text.now)) }
+    ensures ok { IfOk result (λ x. Patterns.run_in text.now ≡ Ok (x.0, x.1.now)) }
+    ensures cause { IfErr result (λ misfit. RefusesExactly misfit (Patterns.run_in text.now)) }
     ensures shorter { IfOk result (λ x. length x.1.now ≤ length text.now) }
     ensures range { IfOk result (λ x. (0 < x.0.count) × (x.0.count < 10 ^ 9)) }
 {
@@ -133,9 +133,9 @@ fn run_in(text: &[u8]) -> Result<(Run, &[u8]), Misfit>
 // Further runs, as many as commas stand there.
 fn read_runs<'a>(runs: &mut Vec<Run>, text: &'a [u8]) -> Result<&'a [u8], Misfit>
     requires { IsTrue (are_counts runs.old.items) }
-    ensures ok { IfOk result (λ rest. onto runs.old.items (repeated Grammar.run_in text.now)
+    ensures ok { IfOk result (λ rest. onto runs.old.items (repeated Patterns.run_in text.now)
         ≡ Ok (runs.new.items, rest.now)) }
-    ensures cause { IfErr result (λ misfit. Refuses misfit (repeated Grammar.run_in text.now)) }
+    ensures cause { IfErr result (λ misfit. Refuses misfit (repeated Patterns.run_in text.now)) }
     ensures counts { OnOk result (IsTrue (are_counts runs.new.items)) }
     ensures few { IfOk result
         (λ rest. length runs.new.items + length rest.now ≤ length runs.old.items + length text.now) }
@@ -151,10 +151,10 @@ fn read_runs<'a>(runs: &mut Vec<Run>, text: &'a [u8]) -> Result<&'a [u8], Misfit
 }
 
 // Runs with a comma between any two of them, in braces.
-#[tactic(auto, unfolding(crate::specs::Grammar::runs_in))]
+#[tactic(auto, unfolding(crate::specs::Patterns::runs_in))]
 fn runs_in(alloc: Global, text: &[u8]) -> Result<(Vec<Run>, &[u8]), Misfit>
-    ensures ok { IfOk result (λ x. Grammar.runs_in text.now ≡ Ok (x.0.items, x.1.now)) }
-    ensures cause { IfErr result (λ misfit. Refuses misfit (Grammar.runs_in text.now)) }
+    ensures ok { IfOk result (λ x. Patterns.runs_in text.now ≡ Ok (x.0.items, x.1.now)) }
+    ensures cause { IfErr result (λ misfit. Refuses misfit (Patterns.runs_in text.now)) }
     ensures some { IfOk result (λ x. 0 < length x.0.items) }
     ensures few { IfOk result (λ x. length x.0.items ≤ length text.now) }
     ensures counts { IfOk result (λ x. IsTrue (are_counts x.0.items)) }
@@ -177,12 +177,12 @@ pub struct WrittenPattern {
 }
 
 /// The pattern at the front of a text, and the text behind it.
-#[tactic(auto, unfolding(crate::specs::Grammar::pattern_in))]
+#[tactic(auto, unfolding(crate::specs::Patterns::pattern_in))]
 pub fn pattern_in(alloc: Global, text: &[u8]) -> Result<(WrittenPattern, &[u8]), Misfit>
     requires { length text.now < 2 ^ 32 }
-    ensures ok { IfOk result (λ x. Grammar.pattern_in text.now
+    ensures ok { IfOk result (λ x. Patterns.pattern_in text.now
         ≡ Ok (record { unit = x.0.unit; runs = x.0.runs.items }, x.1.now)) }
-    ensures cause { IfErr result (λ misfit. Refuses misfit (Grammar.pattern_in text.now)) }
+    ensures cause { IfErr result (λ misfit. Refuses misfit (Patterns.pattern_in text.now)) }
 {
     let (runs, rest) = runs_in(alloc, text)?;
     let (unit, rest) = unit_in(read_sign(rest, b',')?)?;
@@ -192,9 +192,9 @@ pub fn pattern_in(alloc: Global, text: &[u8]) -> Result<(WrittenPattern, &[u8]),
 /// The pattern that a text writes.
 pub(crate) fn written_pattern(alloc: Global, text: &[u8]) -> Result<WrittenPattern, Misfit>
     requires { length text.now < 2 ^ 32 }
-    ensures ok { IfOk result (λ x. ended [] Grammar.pattern_in text.now
+    ensures ok { IfOk result (λ x. ended [] Patterns.pattern_in text.now
         ≡ Ok (record { unit = x.unit; runs = x.runs.items }, [])) }
-    ensures cause { IfErr result (λ misfit. Refuses misfit (ended [] Grammar.pattern_in text.now)) }
+    ensures cause { IfErr result (λ misfit. Refuses misfit (ended [] Patterns.pattern_in text.now)) }
 {
     let (written, rest) = pattern_in(alloc, text)?;
     read_end(rest, &[])?;

@@ -1,6 +1,6 @@
 // Runs as a list: their length, their flags, and what becomes of each run.
 ghost use Rattle.std.specs.Prelude.{◌≡◌, ℕ, ◌+◌, ◌-◌, ◌*◌, ◌<◌, ◌≤◌, ◌↔◌, length, IsTrue, IsSome, IfSome, IfOk, map};
-ghost use Rattle.ts_pattern.specs.Runs.{total, flag_at, is_pattern, turned, scaled, has_on};
+ghost use Rattle.ts_pattern.specs.Patterns.{total, flag_at, is_pattern, turned, scaled, has_on};
 
 use crate::Run;
 use crate::pattern::{MOST_INTERVALS, MOST_RUNS};

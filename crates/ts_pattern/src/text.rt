@@ -2,14 +2,12 @@
 ghost use Rattle.std.specs.Prelude.{◌≡◌, ◌≢◌, ℕ, ◌+◌, ◌-◌, ◌*◌, ◌^◌, ◌<◌, ◌≤◌, ◌↔◌, List, [], ◌∷◌, ◌++◌, Ok, length};
 ghost use Rattle.std.specs.Prelude.{IsTrue, IfOk, OnOk, OnErr};
 ghost use Rattle.ts_text.specs.Place.{everywhere, RefusesInPlace};
-ghost use Rattle.ts_text.specs.Plain.{plain_front};
+ghost use Rattle.ts_text.specs.Phrase.{plain_front};
 ghost use Rattle.ts_text.specs.Spelling.{AreItsTokens};
-ghost use Rattle.ts_pattern.specs.Runs.{total, flag_at, runs_of, is_pattern};
+ghost use Rattle.ts_pattern.specs.Patterns.{total, flag_at, runs_of, is_pattern, are_counts, plan_of_written};
+ghost use Rattle.ts_pattern.specs.Patterns.{read_plan, written_plan, printed_run, printed_runs, printed_plan, Plan};
 ghost use Rattle.ts_base.specs.Answer.{Answers};
-ghost use Rattle.ts_pattern.specs.Grammar.{are_counts, plan_of_written, read_plan, written_plan, printed_run};
-ghost use Rattle.ts_pattern.specs.Grammar.{printed_runs, printed_plan};
-ghost use Rattle.ts_pattern.specs.Grammar;
-ghost use Rattle.ts_pattern.specs.Plan.{Plan};
+ghost use Rattle.ts_pattern.specs.Patterns;
 ghost use Rattle.ts_pattern.specs.Spelling.{IsPatternText};
 
 use crate::join::extend;
@@ -96,7 +94,7 @@ fn merged_runs(alloc: Global, runs: &[Run]) -> Result<Vec<Run>, AllocError>
 }
 
 fn unit_name(unit: Unit) -> &'static [u8]
-    ensures { result.now ≡ Grammar.unit_name unit }
+    ensures { result.now ≡ Patterns.unit_name unit }
 {
     match unit {
         Unit::Second => b"second",

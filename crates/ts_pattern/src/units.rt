@@ -1,12 +1,12 @@
 // How units are made of one another.
-ghost use Rattle.ts_pattern.specs.Units;
+ghost use Rattle.ts_pattern.specs.Patterns;
 ghost use Rattle.std.specs.Prelude.{◌≡◌, ◌<◌, ◌≤◌, IsTrue};
 
 use ts_base::Unit;
 
 /// The smaller of two units, if one is made of the other.
 pub fn smaller_unit(a: Unit, b: Unit) -> Option<Unit>
-    ensures { result ≡ Units.smaller_unit a b }
+    ensures { result ≡ Patterns.smaller_unit a b }
 {
     if is_made_of(a, b) {
         return Some(b);
@@ -16,8 +16,8 @@ pub fn smaller_unit(a: Unit, b: Unit) -> Option<Unit>
 
 /// How many of the smaller unit make the larger one.
 pub fn factor(larger: Unit, smaller: Unit) -> u32
-    requires { IsTrue (Units.is_made_of larger smaller) }
-    ensures value { result ≡ Units.factor larger smaller }
+    requires { IsTrue (Patterns.is_made_of larger smaller) }
+    ensures value { result ≡ Patterns.factor larger smaller }
     ensures some { 1 ≤ result }
     ensures few { result ≤ 604_800 }
 {
@@ -25,13 +25,13 @@ pub fn factor(larger: Unit, smaller: Unit) -> u32
 }
 
 pub(crate) fn is_made_of(larger: Unit, smaller: Unit) -> bool
-    ensures { result ≡ Units.is_made_of larger smaller }
+    ensures { result ≡ Patterns.is_made_of larger smaller }
 {
     is_monthly(larger) == is_monthly(smaller) && size(smaller) <= size(larger)
 }
 
 fn is_monthly(unit: Unit) -> bool
-    ensures { result ≡ Units.is_monthly unit }
+    ensures { result ≡ Patterns.is_monthly unit }
 {
     match unit {
         Unit::Second | Unit::Minute | Unit::Hour | Unit::Day | Unit::Week => false,
@@ -41,7 +41,7 @@ fn is_monthly(unit: Unit) -> bool
 
 // The seconds in a unit up to the week, the months in a month or a year.
 fn size(unit: Unit) -> u32
-    ensures { result ≡ Units.size unit }
+    ensures { result ≡ Patterns.size unit }
 {
     match unit {
         Unit::Second | Unit::Month => 1,

@@ -3,11 +3,9 @@ use Rattle.std.proofs.Common.{◌≡◌, ℕ, ◌+◌, ◌-◌, ◌≤◌, Bool,
 use Rattle.std.specs.Int.{from_be_bytes, w32}
 use Rattle.std.proofs.lemmas.Bool.{cond-true, cond-false, le-leb, lt-leb}
 use Rattle.std.proofs.lemmas.List.{take-take, drop-take, drop-drop, get_or-take, length-replicate, length-take-le}
-use Rattle.ts_page.specs.Head.{bytes_at, zero_page}
-use Rattle.ts_page.specs.Volume.{first_element_page}
+use Rattle.ts_page.specs.Pages.{bytes_at, zero_page, first_element_page}
 use Rattle.ts_journal.specs.declared.batch.Change.TheVariants.{Image, Free}
-use Rattle.ts_journal.specs.Entry.{is_region}
-use Rattle.ts_journal.specs.Record.{entry_if_any, first_entry}
+use Rattle.ts_journal.specs.Journal.{is_region, entry_if_any, first_entry}
 
 pub zero_length : length zero_page ≡ 4096
 unfolding zero_page

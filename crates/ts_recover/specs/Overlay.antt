@@ -1,8 +1,7 @@
 -- When each answer of a recovery comes, and what a settling leaves in memory.
 use Rattle.std.specs.Prelude.{◌≡◌, ◌⊎◌, ℕ, ◌+◌, ◌≤◌, Bool, IsTrue, Result, Ok, Err, None, List, [], length}
 use Rattle.ts_disk.specs.Device.{Device, Rose}
-use Rattle.ts_journal.specs.Entry.{Entries}
-use Rattle.ts_journal.specs.Journal.{IsVolumeSize, records, IsMalformed}
+use Rattle.ts_journal.specs.Journal.{Entries, IsVolumeSize, records, IsMalformed}
 use Rattle.ts_recover.specs.declared.replay.RecoverFault.{RecoverFault}
 use Rattle.ts_recover.specs.declared.replay.RecoverFault.TheVariants.{Failed, NotAStore, Memory}
 

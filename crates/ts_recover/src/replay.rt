@@ -1,9 +1,8 @@
 // What an opening reads of the journal, and the settling.
 ghost use Rattle.std.specs.Prelude.{◌≡◌, ◌*◌, [], IsTrue, IsErr, IsErrOf, IfOk, OnOk, OnErr};
-ghost use Rattle.ts_page.specs.Volume.{page_size};
-ghost use Rattle.ts_journal.specs.Entry.{AreAllowed};
-ghost use Rattle.ts_journal.specs.Journal.{IsVolumeSize, page_count, StandsAt, StandsOver, StaysUnread, ReadsButFreed};
-ghost use Rattle.ts_journal.specs.Journal.{pages};
+ghost use Rattle.ts_page.specs.Pages.{page_size};
+ghost use Rattle.ts_journal.specs.Journal.{AreAllowed, IsVolumeSize, page_count, StandsAt, StandsOver, StaysUnread};
+ghost use Rattle.ts_journal.specs.Journal.{ReadsButFreed, pages};
 ghost use Rattle.ts_journal.specs.Moment.{IsJournalOf, MakesLast, OnlyReads, SamePages};
 ghost use Rattle.ts_recover.specs.Overlay.{IsEmptied, RecoverCause, PageOneCause};
 ghost use Rattle.ts_recover.specs.declared.replay.RecoverFault.TheVariants.{Failed as RecoverFailed};

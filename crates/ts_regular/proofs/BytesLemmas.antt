@@ -8,11 +8,9 @@ use Rattle.std.proofs.lemmas.List.Concat.{flat_map-cons}
 use Rattle.std.proofs.Math.ListN.{length-set}
 use Rattle.std.proofs.Math.Nat.{mul-div-le, mul-le-mul_left, div-le_of_le-mul}
 use Rattle.ts_row.specs.declared.kind.Column.{Column}
-use Rattle.ts_row.specs.RowType.{width_of}
-use Rattle.ts_row.specs.Row.{Row, fits, marked}
+use Rattle.ts_row.specs.Row.{width_of, Row, fits, marked}
 use Rattle.ts_row.proofs.RowBytesLemmas.{length-row_bytes}
-use Rattle.ts_regular.specs.Cell.{Cell, FitsCell, cell_bytes, cell_size, regular_room}
-use Rattle.ts_regular.specs.RegularPage.{AreCells, cells_bytes, behind_head}
+use Rattle.ts_regular.specs.RegularPage.{Cell, FitsCell, cell_bytes, cell_size, regular_room, AreCells, cells_bytes, behind_head}
 use Rattle.ts_regular.specs.OnePage.{cell_at, is_seen, with_mark}
 
 -- a cell has its size

@@ -1,9 +1,7 @@
 -- The elements in cells: an edit of a cell is that of the element at its offset.
 use Rattle.std.proofs.Common.{◌≡◌, ℕ, zero, suc, ◌+◌, ◌<◌, ◌≤◌, Bool, true, false, IsTrue, Some, None, IsSome, is_some, List, [], ◌∷◌, ◌++◌, length, refl, sym, ap, ◌∙◌, arith}
 use Rattle.ts_row.specs.Row.{Row}
-use Rattle.ts_regular.specs.Cell.{Cell}
-use Rattle.ts_regular.specs.Offsets.{OffsetElement, AreRising, elements_from, element_at, with_element, without_element}
-use Rattle.ts_regular.specs.RegularPage.{filled_count}
+use Rattle.ts_regular.specs.RegularPage.{Cell, OffsetElement, AreRising, elements_from, element_at, with_element, without_element, filled_count}
 use Rattle.ts_regular.specs.OnePage.{cell_at, with_row, without_row}
 use Rattle.ts_regular.proofs.OffsetLemmas.{AreLess, AreMore, at_below, at_same, with_below, with_same, without_other, without_same, none_more, first_more, kept_more, rising_first, more_both}
 

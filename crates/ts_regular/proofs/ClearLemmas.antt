@@ -14,8 +14,7 @@ use Rattle.ts_space.specs.Place.{AreAbove, AreBelow, IsRising, count_of, pages_o
 use Rattle.ts_space.specs.Moved.{list_of, moved_to}
 use Rattle.ts_page.specs.Pages.{Contents}
 use Rattle.ts_row.specs.declared.kind.Column.{Column}
-use Rattle.ts_regular.specs.Cell.{regular_room, base_of}
-use Rattle.ts_regular.specs.Offsets.{OffsetElement, elements_from}
+use Rattle.ts_regular.specs.RegularPage.{regular_room, base_of, OffsetElement, elements_from}
 use Rattle.ts_regular.specs.Places.{OffsetPage, all_in, IsOn, AreOn, IsCounted, IsPlace, ArePlaces, AreMoved}
 use Rattle.ts_regular.specs.Call.{AreWritten}
 use Rattle.ts_regular.specs.Range.{is_between, within, outside, AreCleared, HasNoneWithin}

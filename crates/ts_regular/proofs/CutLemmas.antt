@@ -3,8 +3,7 @@ use Rattle.std.proofs.Common.{◌≡◌, ℕ, Bool, IsTrue, List, sym, subst, �
 use Rattle.ts_space.specs.declared.place.Place.{Place}
 use Rattle.ts_page.specs.Pages.{Contents, EqualPages}
 use Rattle.ts_row.specs.declared.kind.Column.{Column}
-use Rattle.ts_regular.specs.Cell.{Cell}
-use Rattle.ts_regular.specs.RegularPage.{IsRegularPage, filled_count}
+use Rattle.ts_regular.specs.RegularPage.{Cell, IsRegularPage, filled_count}
 use Rattle.ts_regular.specs.Places.{IsOn}
 use Rattle.ts_regular.specs.OnePage.{IsToldOn}
 use Rattle.ts_regular.specs.Cut.{cells_outside, recounted}

@@ -7,7 +7,7 @@ use Rattle.std.proofs.lemmas.List.Sums.{sum_by-cons}
 use Rattle.ts_space.specs.declared.place.Place.{Place}
 use Rattle.ts_space.specs.Place.{AreAbove, IsRising, count_of, pages_of}
 use Rattle.ts_row.specs.declared.kind.Column.{Column}
-use Rattle.ts_regular.specs.Offsets.{OffsetElement, elements_from}
+use Rattle.ts_regular.specs.RegularPage.{OffsetElement, elements_from}
 use Rattle.ts_regular.specs.Places.{OffsetPage, all_in, AreOn, IsCounted}
 use Rattle.ts_regular.specs.Range.{is_between, outside}
 use Rattle.ts_regular.specs.Cut.{Cut, AreRests, cells_outside, cuts_behind, cuts_of, gone_of, kept_of, recounted}

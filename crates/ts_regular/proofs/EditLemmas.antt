@@ -18,8 +18,7 @@ use Rattle.ts_space.specs.Moved.{list_of, moved_to}
 use Rattle.ts_page.specs.Pages.{Contents}
 use Rattle.ts_row.specs.declared.kind.Column.{Column}
 use Rattle.ts_row.specs.Row.{Row, marked}
-use Rattle.ts_regular.specs.Cell.{Cell, regular_room, base_of}
-use Rattle.ts_regular.specs.Offsets.{OffsetElement, elements_from, element_at, with_element, without_element}
+use Rattle.ts_regular.specs.RegularPage.{Cell, regular_room, base_of, OffsetElement, elements_from, element_at, with_element, without_element}
 use Rattle.ts_regular.specs.Places.{OffsetPage, all_in, IsOn, AreOn, IsCounted, IsPlace, ArePlaces, AreMoved}
 use Rattle.ts_regular.specs.OnePage.{cell_at, with_row, without_row, with_mark, no_cells, IsToldOn, IsEditedOn, IsPutAlone, IsEmptyOn, IsMarkedOn, IsTakenFrom, IsFreedOn, IsTakenOn}
 use Rattle.ts_regular.specs.Call.{Stays, IsRowIn, AreWritten, IsPut, IsMissing, IsMarked, IsTakenAway, IsRemoved}

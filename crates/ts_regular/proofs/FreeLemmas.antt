@@ -9,8 +9,7 @@ use Rattle.std.proofs.lemmas.List.Elements.{Contains-append_cases, Contains-appe
 use Rattle.std.proofs.lemmas.List.Sorted.{IsPermutation-sym, IsPermutation-trans, IsPermutation-keeps, IsPermutation-append_right, IsPermutation-cons, Contains-permutation}
 use Rattle.ts_space.specs.declared.place.Place.{Place}
 use Rattle.ts_space.specs.Place.{pages_of}
-use Rattle.ts_page.specs.Head.{zero_page}
-use Rattle.ts_page.specs.Pages.{Contents, Freed}
+use Rattle.ts_page.specs.Pages.{zero_page, Contents, Freed}
 use Rattle.ts_regular.specs.Cut.{AreFreed, AreFreedTo, CanBeFreed}
 use Rattle.ts_regular.proofs.KeptLemmas.{other_page}
 use Rattle.ts_regular.proofs.EditLemmas.{one_freed, pairs_tail}

@@ -3,13 +3,12 @@ use Rattle.std.proofs.Common.{◌≡◌, ℕ, ◌+◌, ◌-◌, ◌*◌, ◌<◌
 use borrow.Rule.Slice.PartMut.{put_mid, mid_of}
 use Rattle.std.proofs.lemmas.List.{drop_all, drop_at, take_at, take-append-drop, length-take-le, length-replicate}
 use Rattle.std.proofs.Math.Seq.{take-length, take-append_seam, drop-append_seam}
-use Rattle.ts_page.specs.Head.{head_of, head_bytes}
+use Rattle.ts_page.specs.Pages.{head_of, head_bytes}
 use Rattle.ts_page.specs.declared.page.Head.TheVariants.{Free, Regular, Irregular}
 use Rattle.ts_page.specs.declared.page.Head.{Head}
 use Rattle.ts_page.proofs.HeadLemmas.{head_of-written, head_read}
 use Rattle.ts_row.specs.declared.kind.Column.{Column}
-use Rattle.ts_regular.specs.Cell.{Cell, cell_size, regular_room}
-use Rattle.ts_regular.specs.RegularPage.{AreCells, IsRegularPage, FillPage, cells_bytes, behind_head, filled_count, regular_page, told_in}
+use Rattle.ts_regular.specs.RegularPage.{Cell, cell_size, regular_room, AreCells, IsRegularPage, FillPage, cells_bytes, behind_head, filled_count, regular_page, told_in}
 use Rattle.ts_regular.proofs.BytesLemmas.{cells_fit, few_fit, length-cells}
 use Rattle.ts_regular.proofs.CellsLemmas.{count_within}
 

@@ -9,9 +9,7 @@ use Rattle.std.proofs.Math.Seq.{take-add, take-length, take-append_seam, drop-ap
 use Rattle.ts_row.specs.declared.kind.Column.{Column}
 use Rattle.ts_row.specs.Row.{Row, fits}
 use Rattle.ts_regular.specs.declared.extent.RegularExtent.{RegularExtent}
-use Rattle.ts_regular.specs.Cell.{Cell, FitsCell, cell_bytes, cell_size, regular_room}
-use Rattle.ts_regular.specs.Offsets.{OffsetElement, elements_from, has_hidden, last_of, last_offset}
-use Rattle.ts_regular.specs.RegularPage.{AreCells, FillPage, HasExtent, cells_bytes, filled_count}
+use Rattle.ts_regular.specs.RegularPage.{Cell, FitsCell, cell_bytes, cell_size, regular_room, OffsetElement, elements_from, has_hidden, last_of, last_offset, AreCells, FillPage, HasExtent, cells_bytes, filled_count}
 use Rattle.ts_regular.specs.OnePage.{cell_at}
 use Rattle.ts_regular.proofs.CellsLemmas.{count_within}
 use Rattle.ts_regular.proofs.BytesLemmas.{around_cells, length-cell}

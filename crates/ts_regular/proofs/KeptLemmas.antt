@@ -9,14 +9,10 @@ use Rattle.std.proofs.lemmas.List.Concat.{flat_map-cons}
 use Rattle.std.proofs.lemmas.List.Elements.{All-cons, All-nil}
 use Rattle.std.proofs.Math.ListN.{length-set}
 use Rattle.ts_space.specs.declared.place.Place.{Place}
-use Rattle.ts_page.specs.Head.{zero_page}
-use Rattle.ts_page.specs.Pages.{Contents, EqualPages, with_page, Got, Put, Taken, IsElementPage, IsLawful, IsListed}
+use Rattle.ts_page.specs.Pages.{zero_page, Contents, EqualPages, with_page, Got, Put, Taken, IsElementPage, IsLawful, IsListed, first_element_page}
 use Rattle.ts_row.specs.declared.kind.Column.{Column}
-use Rattle.ts_row.specs.RowType.{width_of}
-use Rattle.ts_row.specs.Row.{Row, fits, marked}
-use Rattle.ts_page.specs.Volume.{first_element_page}
-use Rattle.ts_regular.specs.Cell.{Cell, FitsCell, cell_bytes, cell_size, regular_room}
-use Rattle.ts_regular.specs.RegularPage.{AreCells, IsRegularPage, cells_bytes, behind_head, filled_count, regular_page}
+use Rattle.ts_row.specs.Row.{width_of, Row, fits, marked}
+use Rattle.ts_regular.specs.RegularPage.{Cell, FitsCell, cell_bytes, cell_size, regular_room, AreCells, IsRegularPage, cells_bytes, behind_head, filled_count, regular_page}
 use Rattle.ts_regular.specs.Places.{OffsetPage, IsOn, IsCounted, IsPlace, ArePlaces}
 use Rattle.ts_regular.specs.OnePage.{cell_at, with_row, with_mark, no_cells, IsToldOn, KeepsOthers, IsEditedOn, IsPutAlone}
 use Rattle.ts_regular.specs.Call.{Stays, AreLeft}

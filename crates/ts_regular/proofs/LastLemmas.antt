@@ -7,8 +7,7 @@ use Rattle.ts_space.specs.declared.place.Place.{Place}
 use Rattle.ts_page.specs.Pages.{Contents}
 use Rattle.ts_row.specs.declared.kind.Column.{Column}
 use Rattle.ts_row.specs.Row.{Row}
-use Rattle.ts_regular.specs.Cell.{Cell}
-use Rattle.ts_regular.specs.Offsets.{OffsetElement, elements_from, seen, last_of, last_seen}
+use Rattle.ts_regular.specs.RegularPage.{Cell, OffsetElement, elements_from, seen, last_of, last_seen}
 use Rattle.ts_regular.specs.Places.{OffsetPage, all_in, IsOn, AreOn}
 use Rattle.ts_regular.specs.OnePage.{cell_at, is_seen, IsLastCell}
 use Rattle.ts_regular.specs.Call.{Reads, IsLastIn}

@@ -4,7 +4,7 @@ use Rattle.std.specs.Prelude.{nat_lt}
 use Rattle.std.proofs.lemmas.Bool.{cases_lt}
 use Rattle.std.proofs.lemmas.Bool.Decides.{nat_tests}
 use Rattle.ts_row.specs.Row.{Row}
-use Rattle.ts_regular.specs.Offsets.{OffsetElement, AreRising, element_at, with_element, without_element}
+use Rattle.ts_regular.specs.RegularPage.{OffsetElement, AreRising, element_at, with_element, without_element}
 
 -- what a test of offsets says
 pub lt_yes : (a b : ℕ) → a < b → nat_lt a b ≡ true

@@ -7,8 +7,7 @@ use Rattle.ts_space.specs.declared.place.Place.{Place}
 use Rattle.ts_space.specs.Place.{AreAbove, AreBelow, IsRising, place_at, rank_of, search_of}
 use Rattle.ts_space.proofs.PlaceLemmas.{int_lt_yes, int_lt_no, int_eq_same, int_eq_lower, int_eq_higher, none_found}
 use Rattle.ts_row.specs.declared.kind.Column.{Column}
-use Rattle.ts_regular.specs.Cell.{regular_room}
-use Rattle.ts_regular.specs.Offsets.{OffsetElement, AreRising, elements_from}
+use Rattle.ts_regular.specs.RegularPage.{regular_room, OffsetElement, AreRising, elements_from}
 use Rattle.ts_regular.specs.Places.{OffsetPage, all_in, IsOn, AreOn}
 use Rattle.ts_regular.proofs.OffsetLemmas.{AreLess, AreMore, less_both, more_both}
 use Rattle.ts_regular.proofs.CellsLemmas.{less_cells, more_cells, rising_cells}

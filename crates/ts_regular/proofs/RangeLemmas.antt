@@ -3,9 +3,7 @@ use Rattle.std.proofs.Common.{◌≡◌, ℕ, zero, suc, ◌+◌, ◌-◌, ◌<�
 use Rattle.std.proofs.lemmas.Bool.{cases_lt}
 use Rattle.std.proofs.lemmas.Bool.Decides.{nat_tests}
 use Rattle.ts_row.specs.declared.kind.Column.{Column}
-use Rattle.ts_regular.specs.Cell.{Cell}
-use Rattle.ts_regular.specs.Offsets.{OffsetElement, elements_from}
-use Rattle.ts_regular.specs.RegularPage.{AreCells, filled_count}
+use Rattle.ts_regular.specs.RegularPage.{Cell, OffsetElement, elements_from, AreCells, filled_count}
 use Rattle.ts_regular.specs.OnePage.{cell_at, without_row}
 use Rattle.ts_regular.specs.Range.{is_between, outside}
 use Rattle.ts_regular.specs.Cut.{cells_outside}

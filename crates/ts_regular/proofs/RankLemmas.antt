@@ -7,8 +7,7 @@ use Rattle.ts_space.specs.declared.place.Place.{Place}
 use Rattle.ts_space.specs.Place.{AreAbove, AreBelow, IsRising, rank_of}
 use Rattle.ts_page.specs.Pages.{Contents}
 use Rattle.ts_row.specs.declared.kind.Column.{Column}
-use Rattle.ts_regular.specs.Cell.{base_of}
-use Rattle.ts_regular.specs.Offsets.{OffsetElement}
+use Rattle.ts_regular.specs.RegularPage.{base_of, OffsetElement}
 use Rattle.ts_regular.specs.Places.{all_in}
 use Rattle.ts_regular.specs.Range.{within, HasNoneWithin}
 use Rattle.ts_regular.specs.Cut.{AreNotBelow, IsRange}

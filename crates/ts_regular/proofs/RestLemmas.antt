@@ -8,8 +8,7 @@ use Rattle.ts_space.specs.declared.place.Place.{Place}
 use Rattle.ts_space.specs.Place.{AreAbove, AreBelow, IsRising, pages_of}
 use Rattle.ts_page.specs.Pages.{Contents}
 use Rattle.ts_row.specs.declared.kind.Column.{Column}
-use Rattle.ts_regular.specs.Cell.{Cell, regular_room, base_of}
-use Rattle.ts_regular.specs.RegularPage.{filled_count}
+use Rattle.ts_regular.specs.RegularPage.{Cell, regular_room, base_of, filled_count}
 use Rattle.ts_regular.specs.Places.{OffsetPage, IsOn, AreOn}
 use Rattle.ts_regular.specs.OnePage.{KeepsOthers}
 use Rattle.ts_regular.specs.Call.{Stays}

@@ -9,8 +9,7 @@ use Rattle.ts_space.specs.Moved.{moved_to}
 use Rattle.ts_page.specs.Pages.{Contents}
 use Rattle.ts_row.specs.declared.kind.Column.{Column}
 use Rattle.ts_row.specs.Row.{Row, marked}
-use Rattle.ts_regular.specs.Cell.{base_of}
-use Rattle.ts_regular.specs.Offsets.{OffsetElement, element_at, with_element, without_element, last_seen}
+use Rattle.ts_regular.specs.RegularPage.{base_of, OffsetElement, element_at, with_element, without_element, last_seen}
 use Rattle.ts_regular.specs.Places.{OffsetPage, all_in, AreOn, AreMoved}
 
 -- Where the pages are told, this holds of the cells that they have and their places tell of. Of pages that have none

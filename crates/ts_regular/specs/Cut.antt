@@ -5,8 +5,7 @@ use Rattle.ts_space.specs.declared.place.Place.{Place}
 use Rattle.ts_space.specs.Place.{AreBelow, pages_of}
 use Rattle.ts_page.specs.Pages.{Contents, IsElementPage}
 use Rattle.ts_row.specs.declared.kind.Column.{Column}
-use Rattle.ts_regular.specs.Cell.{Cell, base_of}
-use Rattle.ts_regular.specs.RegularPage.{filled_count}
+use Rattle.ts_regular.specs.RegularPage.{Cell, base_of, filled_count}
 use Rattle.ts_regular.specs.Places.{OffsetPage, IsOn}
 use Rattle.ts_regular.specs.OnePage.{IsToldOn}
 use Rattle.ts_regular.specs.Call.{Stays, IsTold}

@@ -1,5 +1,3 @@
-pub mod Cell
-pub mod Offsets
 pub mod RegularPage
 pub mod Places
 pub mod Call

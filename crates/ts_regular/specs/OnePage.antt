@@ -8,8 +8,7 @@ use Rattle.ts_space.specs.declared.moved.Come.TheVariants.{Nothing, One, Two}
 use Rattle.ts_page.specs.Pages.{Contents}
 use Rattle.ts_row.specs.declared.kind.Column.{Column}
 use Rattle.ts_row.specs.Row.{Row, marked}
-use Rattle.ts_regular.specs.Cell.{Cell, regular_room}
-use Rattle.ts_regular.specs.RegularPage.{filled_count}
+use Rattle.ts_regular.specs.RegularPage.{Cell, regular_room, filled_count}
 use Rattle.ts_regular.specs.Places.{OffsetPage, IsOn, IsCounted}
 use Rattle.ts_regular.specs.Call.{Stays}
 

@@ -4,9 +4,7 @@ use Rattle.ts_space.specs.declared.place.Place.{Place}
 use Rattle.ts_space.specs.Place.{IsRising, pages_of}
 use Rattle.ts_page.specs.Pages.{Contents, IsElementPage}
 use Rattle.ts_row.specs.declared.kind.Column.{Column}
-use Rattle.ts_regular.specs.Cell.{Cell, regular_room}
-use Rattle.ts_regular.specs.Offsets.{OffsetElement, elements_from}
-use Rattle.ts_regular.specs.RegularPage.{IsRegularPage, filled_count}
+use Rattle.ts_regular.specs.RegularPage.{Cell, regular_room, OffsetElement, elements_from, IsRegularPage, filled_count}
 
 -- a page of a series: the offset of its first cell, and its cells
 abbrev pub OffsetPage : Type 0

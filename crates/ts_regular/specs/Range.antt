@@ -7,7 +7,7 @@ use Rattle.ts_space.specs.Place.{count_of}
 use Rattle.ts_space.specs.Moved.{moved_to}
 use Rattle.ts_page.specs.Pages.{Contents}
 use Rattle.ts_row.specs.declared.kind.Column.{Column}
-use Rattle.ts_regular.specs.Offsets.{OffsetElement}
+use Rattle.ts_regular.specs.RegularPage.{OffsetElement}
 use Rattle.ts_regular.specs.Places.{all_in, AreMoved}
 use Rattle.ts_regular.specs.Call.{Stays, IsTold, AreWritten}
 

@@ -1,14 +1,97 @@
--- A regular page: cells for so many offsets in a row, each with the element at its offset or without one.
-use Rattle.std.specs.Prelude.{◌≡◌, ℕ, suc, ◌+◌, ◌-◌, ◌*◌, ◌%◌, ◌<◌, ◌≤◌, ◌^◌, Option, Some, None, List, [], ◌∷◌, ◌++◌}
-use Rattle.std.specs.Prelude.{length, replicate}
-use Rattle.std.specs.List.{flat_map}
-use Rattle.ts_page.specs.Head.{head_bytes}
+-- A page of cells for so many offsets in a row, its cells, and elements at offsets.
+use Rattle.std.specs.Prelude.{ℕ, suc, ◌+◌, ◌-◌, ◌<◌, ◌≤◌, ◌^◌, ◌==◌, not, Bool, ◌*◌, ◌%◌, ◌/◌, IsTrue, IfSome, Option}
+use Rattle.std.specs.Prelude.{Some, None, List, [], ◌∷◌, ◌++◌, filter, length, replicate, slice_get, ◌≡◌}
+use Rattle.std.specs.Ordering.{nat_cmp}
+use Rattle.std.specs.FinMap.{find, put}
+use Rattle.std.specs.Option.{option_map}
+use Rattle.std.specs.List.{list_any, flat_map}
+use Rattle.ts_row.specs.declared.kind.Column.{Column}
+use Rattle.ts_row.specs.Row.{width_of, Row, fits}
+use Rattle.ts_row.specs.Encoding.{row_bytes}
+use Rattle.ts_page.specs.Pages.{head_bytes}
 use Rattle.ts_page.specs.declared.page.Head.TheVariants.{Free, Regular, Irregular}
 use Rattle.ts_page.specs.declared.page.Head.{Head}
-use Rattle.ts_row.specs.declared.kind.Column.{Column}
 use Rattle.ts_regular.specs.declared.extent.RegularExtent.{RegularExtent}
-use Rattle.ts_regular.specs.Cell.{Cell, FitsCell, cell_bytes, cell_size, regular_room}
-use Rattle.ts_regular.specs.Offsets.{elements_from, has_hidden, last_offset}
+
+-- A cell of a regular page: a byte 1 and the row of an element, or zeros where there is none.
+
+-- the row of an element, or none
+abbrev pub Cell : Type 0
+Cell = Option Row
+
+-- a row in a cell is one of a row type with these columns
+abbrev pub FitsCell : List Column → Cell → Type 0
+FitsCell columns cell = IfSome cell (λ row. IsTrue (fits columns row))
+
+-- the bytes of a cell
+abbrev pub cell_bytes : List Column → Cell → List ℕ
+cell_bytes columns None = 0 ∷ replicate (width_of columns) 0
+cell_bytes columns (Some row) = 1 ∷ row_bytes columns row
+
+-- how many bytes a cell has
+abbrev pub cell_size : List Column → ℕ
+cell_size columns = width_of columns + 1
+
+-- how many cells a page has
+abbrev pub regular_room : List Column → ℕ
+regular_room columns = 4064 / cell_size columns
+
+-- the offset of the first cell of the page that an offset belongs to
+abbrev pub base_of : List Column → ℕ → ℕ
+base_of columns offset = (offset / regular_room columns) * regular_room columns
+
+-- Elements at offsets, rising: the list that the pages of a regular series are, and what an edit at one offset makes of
+-- it.
+
+-- an element: its offset and its row
+abbrev pub OffsetElement : Type 0
+OffsetElement = ℕ × Row
+
+-- the elements in cells, of which the first has this offset
+abbrev pub elements_from : ℕ → List Cell → List OffsetElement
+elements_from offset [] = []
+elements_from offset (None ∷ cells) = elements_from (offset + 1) cells
+elements_from offset (Some row ∷ cells) = (offset, row) ∷ elements_from (offset + 1) cells
+
+-- each offset is greater than the one before it
+abbrev pub AreRising : List OffsetElement → Type 0
+AreRising [] = Unit {0}
+AreRising (e ∷ []) = Unit {0}
+AreRising (e ∷ f ∷ es) = (e.0 < f.0) × AreRising (f ∷ es)
+
+-- the row of the element at an offset, if one is there
+abbrev pub element_at : ℕ → List OffsetElement → Option Row
+element_at offset es = find nat_cmp offset es
+
+-- the elements with a row at an offset: before the first greater one, or in place of the one that is there
+abbrev pub with_element : ℕ → Row → List OffsetElement → List OffsetElement
+with_element offset row es = put nat_cmp offset row es
+
+-- all elements but the one at an offset
+abbrev pub without_element : ℕ → List OffsetElement → List OffsetElement
+without_element offset es = filter (λ e. not (offset == e.0)) es
+
+-- the elements without the hidden ones
+abbrev pub seen : List OffsetElement → List OffsetElement
+seen es = filter (λ e. not e.1.hidden) es
+
+-- some element is hidden
+abbrev pub has_hidden : List OffsetElement → Bool
+has_hidden es = list_any (λ e. e.1.hidden) es
+
+-- the last element, if there is one
+abbrev pub last_of : List OffsetElement → Option OffsetElement
+last_of es = slice_get es (length es - 1)
+
+-- the last element that isn't hidden, if there is one
+abbrev pub last_seen : List OffsetElement → Option OffsetElement
+last_seen es = last_of (seen es)
+
+-- the greatest offset
+abbrev pub last_offset : List OffsetElement → Option ℕ
+last_offset es = option_map (λ e. e.0) (last_of es)
+
+-- A regular page: cells for so many offsets in a row, each with the element at its offset or without one.
 
 -- the rows in cells are of a row type with these columns
 abbrev pub AreCells : List Column → List Cell → Type 0

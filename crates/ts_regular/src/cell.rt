@@ -2,7 +2,7 @@
 ghost use Rattle.std.specs.Prelude.{◌≡◌, ◌↔◌, ◌+◌, ◌*◌, ◌<◌, ◌≤◌, IsTrue, IfOk, IfSome, IfNone, Some, None, length};
 ghost use Rattle.std.specs.Prelude.{slice_index, is_some};
 ghost use Rattle.ts_row.specs.Row.{Row as TheRow, fits, marked};
-ghost use Rattle.ts_regular.specs.Cell.{Cell, FitsCell, cell_bytes, cell_size, regular_room, base_of};
+ghost use Rattle.ts_regular.specs.RegularPage.{Cell, FitsCell, cell_bytes, cell_size, regular_room, base_of};
 
 use std::alloc::AllocError;
 use ts_row::{Row, RowType, is_zero};

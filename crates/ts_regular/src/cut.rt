@@ -2,8 +2,8 @@
 ghost use Rattle.std.specs.Prelude.{◌≡◌, ◌+◌, ◌<◌, ◌≤◌, ◌≤ℤ◌, pos, min, ◌-◌, IfOk, List, length, drop};
 ghost use Rattle.ts_space.specs.Place.{AreBelow, IsRising};
 ghost use Rattle.ts_page.specs.Pages.{Answered};
-ghost use Rattle.ts_regular.specs.Cell.{Cell, regular_room, base_of};
-ghost use Rattle.ts_regular.specs.RegularPage.{AreCells, behind_head, filled_count, regular_page};
+ghost use Rattle.ts_regular.specs.RegularPage.{Cell, regular_room, base_of, AreCells, behind_head, filled_count};
+ghost use Rattle.ts_regular.specs.RegularPage.{regular_page};
 ghost use Rattle.ts_regular.specs.Places.{ArePlaces, IsPlace};
 ghost use Rattle.ts_regular.specs.OnePage.{KeepsOthers, without_row};
 ghost use Rattle.ts_regular.specs.Call.{Stays};

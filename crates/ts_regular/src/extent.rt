@@ -1,11 +1,10 @@
 // A page judged by its bytes: which offsets it has cells for, how many have an element, the last of these, and whether
 // some are hidden.
 ghost use Rattle.std.specs.Prelude.{◌≡◌, ◌*◌, ◌<◌, ◌^◌, IfSome, IfNone, Some, List, ℕ, length};
-ghost use Rattle.ts_page.specs.Head.{head_of};
+ghost use Rattle.ts_page.specs.Pages.{head_of};
 ghost use Rattle.ts_page.specs.declared.page.Head.TheVariants.{Regular};
-ghost use Rattle.ts_regular.specs.Cell.{Cell, cell_size, regular_room};
-ghost use Rattle.ts_regular.specs.RegularPage.{IsRegularPage, FillPage, HasExtent, cells_bytes, behind_head};
-ghost use Rattle.ts_regular.specs.RegularPage.{filled_count, told_in};
+ghost use Rattle.ts_regular.specs.RegularPage.{Cell, cell_size, regular_room, IsRegularPage, FillPage, HasExtent};
+ghost use Rattle.ts_regular.specs.RegularPage.{cells_bytes, behind_head, filled_count, told_in};
 
 use crate::cell::{cell_size, is_filled_cell, is_hidden_cell, regular_room};
 use ts_page::{HEAD, Head, Page};

@@ -3,9 +3,7 @@ ghost use Rattle.std.specs.Prelude.{◌≡◌, ◌+◌, ◌<◌, ◌<ℤ◌, ◌
 ghost use Rattle.std.specs.Prelude.{length};
 ghost use Rattle.ts_row.specs.Row.{fits};
 ghost use Rattle.ts_space.specs.Directory.{places_of};
-ghost use Rattle.ts_regular.specs.Cell.{Cell, regular_room};
-ghost use Rattle.ts_regular.specs.RegularPage.{AreCells, behind_head};
-ghost use Rattle.ts_regular.specs.Offsets.{elements_from, last_seen};
+ghost use Rattle.ts_regular.specs.RegularPage.{Cell, regular_room, AreCells, behind_head, elements_from, last_seen};
 ghost use Rattle.ts_regular.specs.Places.{CanBeRead};
 ghost use Rattle.ts_regular.specs.OnePage.{IsLastCell};
 ghost use Rattle.ts_regular.specs.Call.{Reads, IsLastIn};

@@ -4,9 +4,8 @@ ghost use Rattle.ts_space.specs.declared.place.Place.{Place as ThePlace};
 ghost use Rattle.ts_space.specs.Place.{IsRising};
 ghost use Rattle.ts_row.specs.declared.kind.Column.{Column as TheColumn};
 ghost use Rattle.ts_row.specs.Row.{Row};
-ghost use Rattle.ts_regular.specs.Cell.{Cell};
-ghost use Rattle.ts_regular.specs.Offsets.{AreRising, element_at, elements_from, with_element, without_element};
-ghost use Rattle.ts_regular.specs.RegularPage.{filled_count};
+ghost use Rattle.ts_regular.specs.RegularPage.{Cell, AreRising, element_at, elements_from, with_element};
+ghost use Rattle.ts_regular.specs.RegularPage.{without_element, filled_count};
 ghost use Rattle.ts_regular.specs.Places.{OffsetPage, AreOn, all_in};
 ghost use Rattle.ts_regular.specs.OnePage.{cell_at, with_row, without_row};
 

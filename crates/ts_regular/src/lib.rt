@@ -5,9 +5,9 @@
 //! (`specs/Range`, `cut.rt`), `regular_last` reads the last element that isn't hidden. Each reads one page and writes
 //! one at most, a range two, but for `regular_last`; it compares the head of a page with its place, and takes one that
 //! disagrees as a page without elements. Each edit of the pages is the edit of the list of their elements
-//! (`specs/Offsets`, `specs/Places`, `specs/Call`). Stands on ts_space, ts_page and ts_row; knows nothing of calendars,
-//! definitions, quotas or journals. Read `specs/RegularPage.antt`, `specs/Call.antt`, then `find.rt`, `put.rt`,
-//! `remove.rt`.
+//! (`specs/RegularPage`, `specs/Places`, `specs/Call`). Stands on ts_space, ts_page and ts_row; knows nothing of
+//! calendars, definitions, quotas or journals. Read `specs/RegularPage.antt`, `specs/Call.antt`, then `find.rt`,
+//! `put.rt`, `remove.rt`.
 #![tactic(auto)]
 
 mod cell;

@@ -1,11 +1,11 @@
 // The cells behind the head of a page, read and edited one at a time.
 ghost use Rattle.std.specs.Prelude.{◌≡◌, ◌↔◌, ◌+◌, ◌<◌, ◌≤◌, IsTrue, IfOk, IfSome, IsSome, Some, None, is_some, false};
 ghost use Rattle.std.specs.Prelude.{List, length, drop};
-ghost use Rattle.ts_page.specs.Head.{head_of};
+ghost use Rattle.ts_page.specs.Pages.{head_of};
 ghost use Rattle.ts_page.specs.declared.page.Head.TheVariants.{Regular};
 ghost use Rattle.ts_row.specs.Row.{fits};
-ghost use Rattle.ts_regular.specs.Cell.{Cell, cell_bytes, cell_size, regular_room};
-ghost use Rattle.ts_regular.specs.RegularPage.{AreCells, IsRegularPage, behind_head, filled_count, regular_page};
+ghost use Rattle.ts_regular.specs.RegularPage.{Cell, cell_bytes, cell_size, regular_room, AreCells, IsRegularPage};
+ghost use Rattle.ts_regular.specs.RegularPage.{behind_head, filled_count, regular_page};
 ghost use Rattle.ts_regular.specs.OnePage.{cell_at, is_seen, with_row, without_row, with_mark};
 
 use crate::cell::{

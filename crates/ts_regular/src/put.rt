@@ -5,7 +5,7 @@ ghost use Rattle.ts_space.specs.Place.{place_at};
 ghost use Rattle.ts_space.specs.Moved.{moved_to};
 ghost use Rattle.ts_space.specs.Directory.{places_of};
 ghost use Rattle.ts_page.specs.Pages.{Answered};
-ghost use Rattle.ts_regular.specs.Cell.{regular_room, base_of};
+ghost use Rattle.ts_regular.specs.RegularPage.{regular_room, base_of};
 ghost use Rattle.ts_regular.specs.Places.{ArePlaces, IsPlace};
 ghost use Rattle.ts_regular.specs.OnePage.{IsEditedOn, IsPutAlone, with_row};
 ghost use Rattle.ts_regular.specs.Call.{IsPut, AreLeft};

@@ -2,7 +2,7 @@
 ghost use Rattle.std.specs.Prelude.{◌≡◌, ◌+◌, ◌<◌, ◌≤◌, ◌^◌, pos, IfOk, OnErr, length};
 ghost use Rattle.ts_space.specs.Directory.{places_of};
 ghost use Rattle.ts_page.specs.Pages.{Answered};
-ghost use Rattle.ts_regular.specs.Cell.{regular_room};
+ghost use Rattle.ts_regular.specs.RegularPage.{regular_room};
 ghost use Rattle.ts_regular.specs.Places.{ArePlaces, IsPlace};
 ghost use Rattle.ts_regular.specs.OnePage.{IsTakenOn};
 ghost use Rattle.ts_regular.specs.Call.{IsRemoved, AreLeft};

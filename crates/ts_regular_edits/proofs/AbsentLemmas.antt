@@ -6,8 +6,7 @@ use Rattle.ts_space.specs.declared.place.Place.{Place}
 use Rattle.ts_space.specs.Place.{IsRising, place_at, rank_of}
 use Rattle.ts_page.specs.Pages.{Contents}
 use Rattle.ts_row.specs.declared.kind.Column.{Column}
-use Rattle.ts_regular.specs.Cell.{regular_room, base_of}
-use Rattle.ts_regular.specs.Offsets.{element_at}
+use Rattle.ts_regular.specs.RegularPage.{regular_room, base_of, element_at}
 use Rattle.ts_regular.specs.Places.{OffsetPage, AreOn, all_in}
 use Rattle.ts_regular.specs.Call.{IsTold}
 use Rattle.ts_regular.proofs.CellsLemmas.{count_within}

@@ -9,8 +9,7 @@ use Rattle.ts_space.specs.declared.place.Place.{Place}
 use Rattle.ts_page.specs.Pages.{Contents, Answered}
 use Rattle.ts_page.proofs.ReadsLemmas.{reads_none, reads_ok}
 use Rattle.ts_row.specs.declared.kind.Column.{Column}
-use Rattle.ts_row.specs.Row.{Row}
-use Rattle.ts_row.specs.Element.{Element}
+use Rattle.ts_row.specs.Row.{Row, Element}
 use Rattle.ts_regular.specs.Call.{Stays, IsRowIn, IsMarked, Reads}
 use Rattle.ts_regular_edits.specs.Address.{IsAddressed, ByAddress}
 use Rattle.ts_regular_edits.specs.Element.{IsFoundAt, IsMarkedFrom, IsMarkedAt}

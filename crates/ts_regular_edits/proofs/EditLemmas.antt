@@ -10,7 +10,7 @@ use Rattle.ts_space.specs.Moved.{moved_to}
 use Rattle.ts_page.specs.Pages.{Contents}
 use Rattle.ts_row.specs.declared.kind.Column.{Column}
 use Rattle.ts_row.specs.Row.{Row}
-use Rattle.ts_regular.specs.Offsets.{element_at, with_element}
+use Rattle.ts_regular.specs.RegularPage.{element_at, with_element}
 use Rattle.ts_regular.specs.Places.{OffsetPage, all_in, AreOn, AreMoved}
 use Rattle.ts_regular.specs.Call.{Stays, AreLeft, AreWritten, IsPut, IsTold, IsRowIn, Reads}
 use Rattle.ts_series.specs.declared.edits.EditKind.{EditKind}

@@ -6,15 +6,13 @@ use Rattle.std.proofs.lemmas.Bool.Decides.{nat_tests}
 use Rattle.std.proofs.lemmas.Int.{by_lt_z, ints}
 use Rattle.std.proofs.lemmas.List.Elements.{All-filter, All-head, All-tail}
 use Rattle.std.proofs.lemmas.Option.{slice_get_within, slice_get-get_or, get_or_from_slice_get}
-use Rattle.ts_calendar.specs.Intervals.{IsLaid}
+use Rattle.ts_calendar.specs.Calendars.{IsLaid}
 use Rattle.ts_space.proofs.PlaceLemmas.{int_lt_yes, int_lt_no}
-use Rattle.ts_offset.specs.Walk.{on_starts}
-use Rattle.ts_offset.specs.Grid.{GridPlan, starts_before, starts_of, stamp_of}
-use Rattle.ts_row.specs.Element.{Element}
-use Rattle.ts_sheets.specs.Range.{is_within, within_range, without_range}
-use Rattle.ts_regular.specs.Offsets.{OffsetElement}
+use Rattle.ts_offset.specs.Grid.{on_starts, GridPlan, starts_before, starts_of, stamp_of}
+use Rattle.ts_row.specs.Row.{Element}
+use Rattle.ts_sheets.specs.Stamped.{is_within, within_range, without_range, stamped, HaveStarts}
+use Rattle.ts_regular.specs.RegularPage.{OffsetElement}
 use Rattle.ts_regular.specs.Range.{is_between, within, outside}
-use Rattle.ts_sheets.specs.Stamped.{stamped, HaveStarts}
 use Rattle.ts_regular_edits.specs.Range.{AreOffsetsOf, AreUpTo}
 use Rattle.ts_regular_edits.proofs.StampLemmas.{some_start, stamped_cons}
 use Rattle.ts_sheets.proofs.StartLemmas.{all_few, filtered_fewer, starts_rise, stamps_rise}

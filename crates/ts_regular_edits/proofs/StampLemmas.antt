@@ -7,14 +7,13 @@ use Rattle.std.specs.FinMap.Entries.{by_order}
 use Rattle.std.proofs.lemmas.Bool.{cases_lt}
 use Rattle.std.proofs.lemmas.Int.{ints}
 use Rattle.std.proofs.lemmas.List.Elements.{All-head, All-tail}
-use Rattle.ts_calendar.specs.Intervals.{IsLaid}
+use Rattle.ts_calendar.specs.Calendars.{IsLaid}
 use Rattle.ts_space.proofs.PlaceLemmas.{int_lt_yes, int_lt_no}
 use Rattle.ts_offset.specs.Grid.{GridPlan, stamp_of}
-use Rattle.ts_row.specs.Row.{Row}
-use Rattle.ts_row.specs.Element.{Element}
+use Rattle.ts_row.specs.Row.{Row, Element}
 use Rattle.ts_irregular.specs.Edit as stamps
-use Rattle.ts_row.specs.Element as elements
-use Rattle.ts_regular.specs.Offsets.{OffsetElement, element_at, with_element, without_element}
+use Rattle.ts_row.specs.Row as elements
+use Rattle.ts_regular.specs.RegularPage.{OffsetElement, element_at, with_element, without_element}
 use Rattle.ts_regular.proofs.OffsetLemmas.{lt_yes, lt_no, eq_yes, eq_no}
 use Rattle.ts_sheets.specs.Stamped.{stamped, HaveStarts}
 use Rattle.ts_sheets.proofs.StartLemmas.{stamps_rise}

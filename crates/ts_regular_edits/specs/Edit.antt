@@ -9,12 +9,10 @@ use Rattle.ts_offset.specs.Grid.{GridPlan}
 use Rattle.ts_space.specs.declared.place.Place.{Place}
 use Rattle.ts_space.specs.Place.{place_at}
 use Rattle.ts_space.specs.Moved.{moved_to}
-use Rattle.ts_page.specs.Pages.{Contents, Answered}
-use Rattle.ts_page.specs.Volume.{image_entry_size, free_entry_size}
+use Rattle.ts_page.specs.Pages.{Contents, Answered, image_entry_size, free_entry_size}
 use Rattle.ts_row.specs.declared.kind.Column.{Column}
 use Rattle.ts_row.specs.Row.{Row}
-use Rattle.ts_regular.specs.Cell.{base_of}
-use Rattle.ts_regular.specs.Offsets.{element_at}
+use Rattle.ts_regular.specs.RegularPage.{base_of, element_at}
 use Rattle.ts_regular.specs.Places.{all_in}
 use Rattle.ts_regular.specs.Call.{Stays, AreLeft, IsTold, IsPut}
 use Rattle.ts_series.specs.declared.edits.EditKind.{EditKind}

@@ -7,8 +7,8 @@ use Rattle.ts_space.specs.declared.place.Place.{Place}
 use Rattle.ts_space.specs.declared.moved.Moved.{Moved}
 use Rattle.ts_page.specs.Pages.{Contents}
 use Rattle.ts_row.specs.declared.kind.Column.{Column}
-use Rattle.ts_row.specs.Element.{Element}
-use Rattle.ts_regular.specs.Offsets.{element_at}
+use Rattle.ts_row.specs.Row.{Element}
+use Rattle.ts_regular.specs.RegularPage.{element_at}
 use Rattle.ts_regular.specs.Places.{all_in}
 use Rattle.ts_regular.specs.Call.{Stays, IsTold, IsMarked, IsRemoved}
 use Rattle.ts_regular_edits.specs.Address.{ByAddress}

@@ -1,13 +1,13 @@
 -- What the call that takes all elements from one stamp to another away does to the pages of a regular series.
 use Rattle.std.specs.Prelude.{◌≡◌, ℕ, ◌<◌, ◌↔◌, ℤ, ◌≤ℤ◌, Bool, Option, Some, List}
-use Rattle.ts_calendar.specs.Intervals.{IsLaid}
+use Rattle.ts_calendar.specs.Calendars.{IsLaid}
 use Rattle.ts_offset.specs.Grid.{GridPlan, stamp_of}
 use Rattle.ts_space.specs.declared.place.Place.{Place}
 use Rattle.ts_space.specs.declared.moved.Moved.{Moved}
 use Rattle.ts_page.specs.Pages.{Contents}
 use Rattle.ts_row.specs.declared.kind.Column.{Column}
-use Rattle.ts_row.specs.Element.{Element}
-use Rattle.ts_sheets.specs.Range.{is_within}
+use Rattle.ts_row.specs.Row.{Element}
+use Rattle.ts_sheets.specs.Stamped.{is_within}
 use Rattle.ts_regular.specs.Range.{is_between, IsCleared}
 
 -- the offsets below this are those of the on starts up to a stamp, one at it included

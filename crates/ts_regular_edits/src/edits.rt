@@ -4,8 +4,7 @@ ghost use Rattle.std.specs.Prelude.{◌≡◌, ◌+◌, ◌^◌, ◌<◌, ◌≤
 ghost use Rattle.ts_row.specs.Row.{fits};
 ghost use Rattle.ts_space.specs.Place.{IsRising};
 ghost use Rattle.ts_space.specs.Directory.{places_of};
-ghost use Rattle.ts_page.specs.Pages.{Answered};
-ghost use Rattle.ts_page.specs.Volume.{image_entry_size};
+ghost use Rattle.ts_page.specs.Pages.{Answered, image_entry_size};
 ghost use Rattle.ts_regular.specs.Places.{ArePlaces};
 ghost use Rattle.ts_regular.specs.Call.{AreLeft};
 ghost use Rattle.ts_series.specs.declared.edits.EditKind.{EditKind as TheKind};

@@ -2,19 +2,18 @@
 ghost use Rattle.std.specs.Prelude.{◌≡◌, ◌<◌, ◌<ℤ◌, ℕ, ℤ, List, length, Some};
 ghost use Rattle.ts_space.specs.declared.place.Place.{Place as ThePlace};
 ghost use Rattle.ts_space.specs.Place.{IsRising};
-ghost use Rattle.ts_calendar.specs.Intervals.{IsLaid};
+ghost use Rattle.ts_calendar.specs.Calendars.{IsLaid};
 ghost use Rattle.ts_offset.specs.Grid.{GridPlan, stamp_of};
 ghost use Rattle.ts_row.specs.declared.kind.Column.{Column as TheColumn};
 ghost use Rattle.ts_row.specs.Row.{Row as TheRow};
 ghost use Rattle.ts_irregular.specs.Edit as stamps;
-ghost use Rattle.ts_row.specs.Element as elements;
-ghost use Rattle.ts_regular.specs.Offsets.{OffsetElement, element_at, with_element, without_element};
+ghost use Rattle.ts_row.specs.Row as elements;
+ghost use Rattle.ts_regular.specs.RegularPage.{OffsetElement, element_at, with_element, without_element};
 ghost use Rattle.ts_regular.specs.Places.{OffsetPage, AreOn, all_in};
 ghost use Rattle.ts_regular.specs.Range.{within, outside};
-ghost use Rattle.ts_sheets.specs.Range.{within_range, without_range};
+ghost use Rattle.ts_sheets.specs.Stamped.{within_range, without_range, stamped, HaveStarts};
 ghost use Rattle.ts_regular_edits.specs.Range.{AreOffsetsOf};
 ghost use Rattle.ts_sheets.specs.Charge.{charge_of, pages_with};
-ghost use Rattle.ts_sheets.specs.Stamped.{stamped, HaveStarts};
 
 /// Stamps rise with their offsets, so distinct offsets have distinct stamps; and what is found, put and taken away at
 /// an offset is found, put and taken away at its stamp.

@@ -1,7 +1,6 @@
 -- More is said.
 use Rattle.std.proofs.Common.{◌≡◌, inl, inr, ℕ, ◌+◌, List, [], ◌∷◌, ◌++◌, append_assoc, zero-add, refl, sym, ◌∙◌, ap, Option, Some, None, arith}
-use Rattle.ts_replies.specs.Acknowledged.{Protocol, Heard, behind, behind_stand_in, IsFront, hear, first_heard, heard, one_more, CanFollow, IsFair, TellsApart}
-use Rattle.ts_replies.specs.Good.{IsNowOrNext, IsGood}
+use Rattle.ts_replies.specs.Acknowledged.{Protocol, Heard, behind, behind_stand_in, IsFront, hear, first_heard, heard, one_more, CanFollow, IsFair, TellsApart, IsNowOrNext, IsGood}
 use Rattle.std.proofs.lemmas.List.{append-nil}
 use Rattle.ts_replies.proofs.Behind.{behind-append, behind-is, behind-more, whole_or_part, none-front}
 

@@ -1,7 +1,6 @@
 -- One step of a run, and one run behind another.
 use Rattle.std.proofs.Common.{◌≡◌, ◌⊎◌, inl, inr, ℕ, List, [], ◌∷◌, ◌++◌, length, length-append, refl, sym, ◌∙◌, ap, append_assoc}
-use Rattle.ts_replies.specs.Acknowledged.{Protocol, IsFront, IsFair, AllAnswered, IsStep, TellsApart}
-use Rattle.ts_replies.specs.Good.{IsGood, IsGoodMoment}
+use Rattle.ts_replies.specs.Acknowledged.{Protocol, IsFront, IsFair, AllAnswered, IsStep, TellsApart, IsGood, IsGoodMoment}
 use Rattle.ts_replies.proofs.Hearing.{heard-nothing, whole_reply, whole_stand_in, good_between, good_reply, good_stand_in, kept_now, heard_then, good_then, good_more}
 
 module _ {C I : Type 0} (p : Protocol C I) (apart : TellsApart p) where

@@ -1,6 +1,8 @@
--- What was said, read as replies to a list of items. The catalogue, the item and what answers it are left open.
+-- What is acknowledged, and what a stop may leave beside it.
 use Rattle.std.specs.Prelude.{◌≡◌, ◌⊎◌, ℕ, ◌+◌, ◌==◌, if◌then◌else◌, List, [], ◌∷◌, ◌++◌, length, Option, Some, None}
 use Rattle.std.specs.Prelude.{codes}
+
+-- What was said, read as replies to a list of items. The catalogue, the item and what answers it are left open.
 
 -- the line that may stand in the place of a reply for want of memory
 abbrev pub memory_line : List ℕ
@@ -96,3 +98,21 @@ pub record TellsApart {C I : Type 0} (p : Protocol C I) : Type 0 where
   pub reply : (cat : C) (item : I) (line : List ℕ) → p.stand_in item ≡ Some line → behind line (p.answer cat item).0
       ≡ None
   pub some : (cat : C) (item : I) → behind (p.answer cat item).0 [] ≡ None
+
+-- What a stop may leave beside what was said.
+
+-- an image keeps the catalogue, or the one after the next item
+abbrev pub IsNowOrNext : {C I : Type 0} → Protocol C I → (C → Type 0) → C → List I → Type 0
+IsNowOrNext p keeps cat [] = keeps cat
+IsNowOrNext p keeps cat (item ∷ items) = keeps cat ⊎ keeps (p.answer cat item).1
+
+-- what was said is fair, and the image keeps the catalogue after exactly the acknowledged items, or these and the next
+pub record IsGood {C I : Type 0} (p : Protocol C I) (keeps : C → Type 0) (cat : C) (items : List I)
+    (said : List ℕ) : Type 0 where
+  pub fair : IsFair p cat items said
+  pub kept : IsNowOrNext p keeps (heard p cat items said).catalogue (heard p cat items said).waiting
+
+-- A moment is an image and the bytes said by then. It is good from these bytes on.
+abbrev pub IsGoodMoment : {C I : Type 0} → Protocol C I → C → List I → List ℕ → List ℕ → List ℕ → Type 0
+IsGoodMoment p cat items before image said =
+    (gained : List ℕ) × (said ≡ before ++ gained) × IsGood p (p.means image) cat items gained

@@ -13,8 +13,8 @@ use Rattle.std.specs.declared.cmp.Ordering.{Ordering}
 use Rattle.std.specs.declared.cmp.Ordering.TheVariants.{Less, Equal, Greater}
 use Rattle.std.specs.Cmp.{nat_cmp_is, ranks}
 use Rattle.std.specs.Cmp.Lexicographic.{slice_cmp}
-use Rattle.ts_base.specs.StampText.{all_digits, number_of, with_digit}
-use Rattle.ts_rolling.specs.Keys.{digits_of}
+use Rattle.ts_base.specs.Moment.{all_digits, number_of, with_digit}
+use Rattle.ts_rolling.specs.Sets.{digits_of}
 
 pub power_pos : (w : ℕ) → 0 < 10 ^ w
 power_pos zero = lit< tt

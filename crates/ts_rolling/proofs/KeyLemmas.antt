@@ -12,9 +12,9 @@ use Rattle.std.specs.Ordering.{nat_cmp, ordering_then}
 use Rattle.std.specs.declared.cmp.Ordering.TheVariants.{Equal}
 use Rattle.std.specs.Cmp.{nat_cmp_is}
 use Rattle.ts_base.specs.Name.{is_key, is_text, is_text_byte}
-use Rattle.ts_base.specs.StampText.{all_digits, number_of}
+use Rattle.ts_base.specs.Moment.{all_digits, number_of}
 use Rattle.ts_model.specs.Catalogue.{name_cmp}
-use Rattle.ts_rolling.specs.Keys.{most_windows, most_kept, is_set, digits_of, numbered_key, window_key, control_key, behind, number_in, read_number, read_window, kept_number, read_control}
+use Rattle.ts_rolling.specs.Sets.{most_windows, most_kept, is_set, digits_of, numbered_key, window_key, control_key, behind, number_in, read_number, read_window, kept_number, read_control}
 use Rattle.ts_rolling.proofs.DigitLemmas.{length-digits_of, number_of-digits_of, number_of-below, digits_of-number_of, all_digits-digits_of, digits_cmp}
 
 -- an option that has a value, by a test

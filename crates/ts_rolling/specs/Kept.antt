@@ -3,10 +3,10 @@ use Rattle.std.specs.Prelude.{ℕ, not, ℤ, List, map, filter}
 use Rattle.std.specs.List.{fold}
 use Rattle.std.specs.Result.{result_unwrap_or}
 use Rattle.std.specs.FinMap.{empty, entries, insert}
-use Rattle.ts_row.specs.Element.{Element}
+use Rattle.ts_row.specs.Row.{Element}
 use Rattle.ts_model.specs.Catalogue.{Elements}
 use Rattle.ts_offset.specs.Grid.{GridPlan, offset_of}
-use Rattle.ts_rolling.specs.Plan.{greatest, is_old}
+use Rattle.ts_rolling.specs.Sets.{greatest, is_old}
 
 -- the window of a stamp
 abbrev pub window_of : GridPlan → ℤ → ℕ

@@ -2,7 +2,7 @@
 use Rattle.std.specs.Prelude.{◌≡◌, ◌↔◌, ℕ, ◌<◌, ◌≤◌, true, Some, List}
 use Rattle.std.specs.Ordering.{nat_cmp}
 use Rattle.ts_model.specs.Catalogue.{name_cmp}
-use Rattle.ts_rolling.specs.Keys.{is_set, most_windows, most_kept, window_key, control_key, read_window, read_control}
+use Rattle.ts_rolling.specs.Sets.{is_set, most_windows, most_kept, window_key, control_key, read_window, read_control}
 
 -- window keys of a set stand in the order of their numbers
 abbrev pub WindowKeysRise : Type 0

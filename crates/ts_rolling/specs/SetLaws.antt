@@ -5,8 +5,8 @@ use Rattle.std.specs.List.Sorted.{IsStrictlyIncreasing}
 use Rattle.std.specs.Ordering.{nat_cmp}
 use Rattle.std.specs.FinMap.{find, get, is_sorted}
 use Rattle.ts_model.specs.Catalogue.{Series, Catalogue}
-use Rattle.ts_rolling.specs.Keys.{most_windows, most_kept, window_key, control_key}
-use Rattle.ts_rolling.specs.Sets.{controls, may_be_window, windows, live}
+use Rattle.ts_rolling.specs.Sets.{most_windows, most_kept, window_key, control_key, controls, may_be_window, windows}
+use Rattle.ts_rolling.specs.Sets.{live}
 
 -- the series, if it may be a window's
 abbrev pub window_in : List ℕ → Option Series → Option Series

@@ -1,9 +1,9 @@
 // The keys of a rolling set's series.
 ghost use Rattle.std.specs.Prelude.{◌≡◌, ℕ, ◌==◌, ◌+◌, ◌^◌, ◌<◌, ◌≤◌, ◌↔◌, ◌++◌, Some, length, IfOk, IsTrue};
 ghost use Rattle.ts_base.specs.Name.{is_text, is_key};
-ghost use Rattle.ts_base.specs.StampText.{all_digits, number_of};
-ghost use Rattle.ts_rolling.specs.Keys.{is_set, numbered_key, window_key, control_key, digits_of, read_number};
-ghost use Rattle.ts_rolling.specs.Keys.{read_window, kept_number, read_control, number_in};
+ghost use Rattle.ts_base.specs.Moment.{all_digits, number_of};
+ghost use Rattle.ts_rolling.specs.Sets.{is_set, numbered_key, window_key, control_key, digits_of, read_number};
+ghost use Rattle.ts_rolling.specs.Sets.{read_window, kept_number, read_control, number_in};
 ghost use Rattle.std.specs.List.{list_any};
 ghost use Rattle.arrayvec.specs.ArrayVec.{array_vec_len};
 

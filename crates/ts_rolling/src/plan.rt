@@ -2,7 +2,7 @@
 ghost use Rattle.std.specs.Prelude.{◌≡◌, ◌<◌, ◌≤◌, Ok, IfOk, IfErr, length, take, filter};
 ghost use Rattle.std.specs.List.Sorted.{IsStrictlyIncreasing};
 ghost use Rattle.ts_base.specs.Answer.{Fails};
-ghost use Rattle.ts_rolling.specs.Plan.{a_plan, planned, plan_for, greatest, is_old, is_gone, later};
+ghost use Rattle.ts_rolling.specs.Sets.{a_plan, planned, plan_for, greatest, is_old, is_gone, later};
 
 use std::alloc::{AllocError, Global};
 use ts_base::{Refusal, Stamp, Trouble};

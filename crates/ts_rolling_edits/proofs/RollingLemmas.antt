@@ -8,16 +8,14 @@ use Rattle.ts_base.specs.declared.refusal.Refusal.TheVariants as refusals
 use Rattle.ts_command.specs.declared.command.Command.TheVariants.{DropSeries, TSCreateIrr, PutElemNoDups}
 use Rattle.ts_row.specs.declared.value.Literal.{Literal}
 use Rattle.ts_page.specs.Pages.{Contents}
-use Rattle.ts_model.specs.Catalogue.{name_cmp, Named, Series, Catalogue}
+use Rattle.ts_model.specs.Catalogue.{name_cmp, Named, Series, Catalogue, without}
 use Rattle.ts_model.proofs.OrderLemmas.{total, same_name, ties-same}
 use Rattle.ts_model.specs.declared.kind.Kind.TheVariants as kinds
-use Rattle.ts_model.specs.Kinds.{without}
-use Rattle.ts_rolling.specs.Keys.{window_key}
-use Rattle.ts_rolling.specs.Plan.{a_plan}
+use Rattle.ts_rolling.specs.Sets.{window_key, a_plan}
 use Rattle.ts_rolling_sets.specs.Near.{key_if}
 use Rattle.ts_answer.specs.Reply.{ok_line}
 use Rattle.ts_answer.specs.Answer.{Answered, known, wanted, outcome, carried_out, drop_series, create_irregular, put_no_dups}
-use Rattle.ts_answer.specs.Rolling.{with_window, without_windows, put_planned}
+use Rattle.ts_answer.specs.Elements.{with_window, without_windows, put_planned}
 use Rattle.ts_answer.specs.CarriedOut.{CarriedOut}
 use Rattle.ts_answer.proofs.CallerLemmas.{on_ok, on_err, wanted-there}
 use Rattle.ts_answer.specs.declared.stop.Stop.{Stop}

@@ -3,11 +3,9 @@ use Rattle.std.specs.Prelude.{◌≡◌, ℕ, zero, suc, ◌+◌, ◌*◌, ◌�
 use Rattle.std.specs.Prelude.{length}
 use Rattle.ts_disk.specs.Device.{Rose}
 use Rattle.ts_base.specs.declared.refusal.Refusal.{Refusal}
-use Rattle.ts_page.specs.Volume.{image_entry_size, free_entry_size}
-use Rattle.ts_page.specs.Pages.{Contents}
-use Rattle.ts_model.specs.Catalogue.{Catalogue}
+use Rattle.ts_page.specs.Pages.{image_entry_size, free_entry_size, Contents}
+use Rattle.ts_model.specs.Catalogue.{Catalogue, without}
 use Rattle.ts_model.specs.declared.kind.Kind.TheVariants as kinds
-use Rattle.ts_model.specs.Kinds.{without}
 use Rattle.ts_layout.specs.Slot.{first_series_page}
 use Rattle.ts_layout.specs.Meaning.{Layout, catalogue_of}
 use Rattle.ts_container.specs.KeptCharges.{AreCharges}

@@ -2,7 +2,7 @@
 ghost use Rattle.std.specs.Prelude.{◌≡◌, ◌≤◌, ◌<◌, [], Ok, Err, EachIndex, slice_index, length, OnOk, true};
 ghost use Rattle.ts_container.specs.KeptCharges.{AreCharges};
 ghost use Rattle.ts_answer.specs.Answer.{put_no_dups};
-ghost use Rattle.ts_answer.specs.Rolling.{with_window, without_windows};
+ghost use Rattle.ts_answer.specs.Elements.{with_window, without_windows};
 ghost use Rattle.ts_answer.specs.View.{IsSeen};
 ghost use Rattle.ts_answer.specs.CarriedOut.{Grows};
 ghost use Rattle.ts_rolling_edits.specs.Parts.{seen_on, IsPart, Never, IsWithout, GrowsByPages};

@@ -2,12 +2,11 @@
 ghost use Rattle.std.specs.Prelude.{◌≡◌, [], IsTrue, IfErr, IfOk, Ok, Err, EachIndex, slice_index, ◌<◌};
 ghost use Rattle.ts_command.specs.declared.command.Command.TheVariants.{RollingPut, RollingDrop};
 ghost use Rattle.ts_container.specs.KeptCharges.{AreCharges};
-ghost use Rattle.ts_rolling.specs.Keys.{is_set, window_key};
-ghost use Rattle.ts_rolling.specs.Plan.{a_plan};
-ghost use Rattle.ts_answer.specs.Rolling.{put_planned, without_windows};
+ghost use Rattle.ts_rolling.specs.Sets.{is_set, window_key, a_plan};
+ghost use Rattle.ts_answer.specs.Elements.{put_planned, without_windows};
 ghost use Rattle.ts_answer.specs.View.{view, IsSeen};
 ghost use Rattle.ts_model.specs.declared.kind.Kind.TheVariants.{Series};
-ghost use Rattle.ts_model.specs.Kinds.{without};
+ghost use Rattle.ts_model.specs.Catalogue.{without};
 ghost use Rattle.ts_answer.specs.CarriedOut.{CarriedOut};
 ghost use Rattle.ts_rolling_edits.specs.Parts.{IsWholeDone, IsPartStopped, Never};
 

@@ -10,8 +10,8 @@ use Rattle.std.specs.FinMap.Entries.{below_all}
 use Rattle.std.proofs.lemmas.Bool.{false≢true}
 use Rattle.std.proofs.lemmas.Int.{ints}
 use Rattle.ts_base.specs.declared.refusal.Refusal.{Refusal}
-use Rattle.ts_row.specs.Element.{Element}
-use Rattle.ts_calendar.specs.Intervals.{IsLaid}
+use Rattle.ts_row.specs.Row.{Element}
+use Rattle.ts_calendar.specs.Calendars.{IsLaid}
 use Rattle.ts_offset.specs.Grid.{GridPlan, offset_of}
 use Rattle.ts_model.specs.Catalogue.{Elements, Series}
 use Rattle.ts_rolling_laws.proofs.OffsetLemmas.{offset_rises}

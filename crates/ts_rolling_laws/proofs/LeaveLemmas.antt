@@ -12,16 +12,13 @@ use Rattle.ts_command.specs.declared.command.Command.TheVariants as commands
 use Rattle.ts_command.specs.Form.{HasForm}
 use Rattle.ts_model.specs.declared.kind.Kind.{Kind}
 use Rattle.ts_model.specs.declared.kind.Kind.TheVariants as kinds
-use Rattle.ts_model.specs.Catalogue.{Catalogue, Series, Named}
-use Rattle.ts_model.specs.Kinds.{named, with_named, without}
-use Rattle.ts_rolling.specs.Keys.{is_set, most_windows, most_kept, window_key, control_key, read_window, read_control}
+use Rattle.ts_model.specs.Catalogue.{Catalogue, Series, Named, named, with_named, without}
+use Rattle.ts_rolling.specs.Sets.{is_set, most_windows, most_kept, window_key, control_key, read_window, read_control, Planned, is_old, later, greatest, planned, controls, control_of, windows, live}
 use Rattle.ts_rolling.specs.KeyLaws.{KeysAreReadExactly, SetsShareNoKeys}
-use Rattle.ts_rolling.specs.Plan.{Planned, is_old, later, greatest, planned}
-use Rattle.ts_rolling.specs.Sets.{controls, control_of, windows, live}
 use Rattle.ts_rolling.specs.SetLaws.{SeriesAreFoundByKeys}
 use Rattle.ts_multi.specs.declared.object.Object.{Object}
 use Rattle.ts_answer.specs.Answer.{Tried, Answered, ◌>>=◌, settled, outcome, answer, carried_out, create_regular, put_no_dups}
-use Rattle.ts_answer.specs.Rolling.{with_window, without_windows, roll_create, roll_put, roll_clip, roll_drop}
+use Rattle.ts_answer.specs.Elements.{with_window, without_windows, roll_create, roll_put, roll_clip, roll_drop}
 use Rattle.ts_answer_laws.specs.Objects.{Leaves, set_of}
 use Rattle.ts_rolling_laws.specs.Content.{IsOfSet, SetsStay}
 use Rattle.ts_rolling_laws.proofs.CameLemmas.{known_is}

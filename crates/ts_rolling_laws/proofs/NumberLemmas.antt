@@ -4,7 +4,7 @@ use Rattle.std.specs.List.{list_any}
 use Rattle.std.proofs.lemmas.Bool.{false≢true}
 use Rattle.std.proofs.lemmas.Bool.Decides.{nat_tests}
 use Rattle.std.proofs.lemmas.List.Folds.{list_any-append}
-use Rattle.ts_rolling.specs.Plan.{later, greatest, is_old, is_gone}
+use Rattle.ts_rolling.specs.Sets.{later, greatest, is_old, is_gone}
 
 -- a number is one of a list's
 abbrev pub has : List ℕ → ℕ → Bool

@@ -6,15 +6,13 @@ use Rattle.std.proofs.lemmas.Option.{same_Some}
 use Rattle.std.proofs.lemmas.Int.{by_lt_z, ints}
 use Rattle.ts_base.specs.Moment.{IsStamp, stamp_if_any}
 use Rattle.ts_base.specs.declared.refusal.Refusal.TheVariants.{BeforeOrigin}
-use Rattle.ts_calendar.specs.Plan.{CalendarPlan}
-use Rattle.ts_calendar.specs.Intervals.{start_at, IsLaid, IsBefore}
+use Rattle.ts_calendar.specs.Calendars.{CalendarPlan, start_at, IsLaid, IsBefore}
 use Rattle.ts_calendar.proofs.StampLemmas.{int_lt_yes, int_lt-true, stamp-is, stamp-not}
 use Rattle.ts_calendar.proofs.LineLemmas.{line-start}
-use Rattle.ts_offset.specs.Walk.{numbers_from, on_start, on_starts}
-use Rattle.ts_offset.specs.Grid.{GridPlan, held_start, starts_before, offset_at, offset_of}
+use Rattle.ts_offset.specs.Grid.{numbers_from, on_start, on_starts, GridPlan, held_start, starts_before, offset_at, offset_of}
 use Rattle.ts_offset.proofs.StartLemmas.{line, on-line, rise}
 use Rattle.ts_offset.proofs.OwnLemmas.{from-held}
-use Rattle.ts_rolling.specs.Keys.{most_windows}
+use Rattle.ts_rolling.specs.Sets.{most_windows}
 
 -- the start that holds a stamp with an offset
 offset_is : (g : GridPlan) (t : ℤ) (j : ℕ) → offset_of g t ≡ Ok j → (s : ℤ) × (held_start g.calendar t ≡ Some s) × (starts_before g s ≡ j)

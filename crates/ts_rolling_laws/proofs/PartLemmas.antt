@@ -11,8 +11,7 @@ use Rattle.std.specs.FinMap.Entries.{where_key, is_sorted-where_key, find-where_
 use Rattle.std.proofs.lemmas.Bool.{false≢true}
 use Rattle.std.proofs.lemmas.Option.{same_Some}
 use Rattle.ts_base.specs.declared.refusal.Refusal.{Refusal}
-use Rattle.ts_row.specs.Row.{Row}
-use Rattle.ts_row.specs.Element.{Element}
+use Rattle.ts_row.specs.Row.{Row, Element}
 use Rattle.ts_offset.specs.Grid.{GridPlan, offset_of}
 use Rattle.ts_model.specs.Catalogue.{Elements}
 use Rattle.ts_rolling.specs.Kept.{window_of, last_puts}

@@ -10,9 +10,9 @@ use Rattle.std.specs.FinMap.{get, insert, remove, get-insert, get-remove, slice_
 use Rattle.std.proofs.lemmas.Bool.{false≢true}
 use Rattle.std.proofs.lemmas.Bool.Decides.{nat_tests}
 use Rattle.ts_model.specs.Catalogue.{Named, Series, Catalogue, name_cmp}
-use Rattle.ts_rolling.specs.Keys.{most_windows, window_key}
+use Rattle.ts_rolling.specs.Sets.{most_windows, window_key}
 use Rattle.ts_rolling.specs.KeyLaws.{WindowKeysRise}
-use Rattle.ts_answer.specs.Rolling.{without_windows}
+use Rattle.ts_answer.specs.Elements.{without_windows}
 use Rattle.ts_rolling_laws.proofs.NumberLemmas.{has, eq_same}
 
 same_key : (a b : List ℕ) → eq_by_cmp name_cmp a b ≡ true → a ≡ b

@@ -12,22 +12,19 @@ use Rattle.std.proofs.lemmas.Option.{same_Some}
 use Rattle.ts_base.specs.declared.refusal.Refusal.{Refusal}
 use Rattle.ts_base.specs.declared.refusal.Refusal.TheVariants.{PastEnd}
 use Rattle.ts_row.specs.declared.value.Literal.{Literal}
-use Rattle.ts_row.specs.Row.{Row}
-use Rattle.ts_row.specs.Element.{Element}
-use Rattle.ts_calendar.specs.Intervals.{IsLaid}
+use Rattle.ts_row.specs.Row.{Row, Element}
+use Rattle.ts_calendar.specs.Calendars.{IsLaid}
 use Rattle.ts_offset.specs.declared.shape.Shape.TheVariants as shapes
 use Rattle.ts_offset.specs.Grid.{GridPlan, grid_of, start_or_next, held_start}
 use Rattle.ts_command.specs.declared.command.Command.{Command}
 use Rattle.ts_model.specs.declared.kind.Kind.TheVariants as kinds
 use Rattle.ts_model.specs.Catalogue.{Catalogue, Series, Regular, columns_of, shape_of, calendar_of}
-use Rattle.ts_rolling.specs.Keys.{is_set, most_windows, most_kept, window_key, control_key, read_control}
-use Rattle.ts_rolling.specs.Sets.{control_of, controls, live}
+use Rattle.ts_rolling.specs.Sets.{is_set, most_windows, most_kept, window_key, control_key, read_control, control_of, controls, live, Planned, going, planned}
 use Rattle.ts_rolling.specs.SetLaws.{window_in}
-use Rattle.ts_rolling.specs.Plan.{Planned, going, planned}
 use Rattle.ts_rolling.specs.Kept.{kept}
 use Rattle.ts_answer.specs.Answer.{Tried, Answered, settled, answer, outcome, carried_out, known, a_row, a_calendar, wanted, create_regular, put_no_dups}
 use Rattle.ts_multi.specs.Touched.{object}
-use Rattle.ts_answer.specs.Rolling.{a_control, control_grid, grid_in, without_windows, with_window, roll_put, roll_create}
+use Rattle.ts_answer.specs.Elements.{a_control, control_grid, grid_in, without_windows, with_window, roll_put, roll_create}
 use Rattle.ts_rolling_laws.specs.Content.{content, Deed, Put, Other, done, all_done, put_if_any, row_by, put_by, all_puts, IsOfSet, IsAside, Avoids, IsMade, ContentIsKept}
 use Rattle.ts_answer_laws.specs.Objects.{set_of}
 use Rattle.ts_rolling_laws.proofs.LeaveLemmas.{window_of_set, control_of_set, of_one_set, named_well}

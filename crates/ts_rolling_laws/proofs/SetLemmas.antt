@@ -10,15 +10,13 @@ use Rattle.std.proofs.lemmas.Bool.{false≢true, cases_lt}
 use Rattle.std.proofs.lemmas.Bool.Decides.{nat_tests}
 use Rattle.std.proofs.lemmas.Option.{same_Some}
 use Rattle.std.proofs.lemmas.Slice.Eq.{bytes_eq-Decides}
-use Rattle.ts_row.specs.Element.{Element, seen}
-use Rattle.ts_calendar.specs.Intervals.{IsLaid}
+use Rattle.ts_row.specs.Row.{Element, seen}
+use Rattle.ts_calendar.specs.Calendars.{IsLaid}
 use Rattle.ts_offset.specs.declared.shape.Shape.TheVariants as shapes
 use Rattle.ts_offset.specs.Grid.{GridPlan, offset_of}
 use Rattle.ts_model.specs.Catalogue.{Catalogue, Elements, Series, Irregular, shape_of}
-use Rattle.ts_rolling.specs.Keys.{most_windows, most_kept, window_key, control_key}
+use Rattle.ts_rolling.specs.Sets.{most_windows, most_kept, window_key, control_key, greatest, is_old, controls, control_of, may_be_window, windows, live}
 use Rattle.ts_rolling.specs.KeyLaws.{WindowKeysRise, ControlKeysRise, KeysAreReadExactly, SetsShareNoKeys}
-use Rattle.ts_rolling.specs.Plan.{greatest, is_old}
-use Rattle.ts_rolling.specs.Sets.{controls, control_of, may_be_window, windows, live}
 use Rattle.ts_rolling.specs.SetLaws.{SeriesAreFoundByKeys, window_in}
 use Rattle.ts_rolling.specs.Kept.{kept, last_puts, window_of, newest_put}
 use Rattle.ts_answer_laws.specs.Laws.{OthersStay}

@@ -10,18 +10,15 @@ use Rattle.std.proofs.lemmas.Bool.{false≢true}
 use Rattle.ts_base.specs.declared.refusal.Refusal.{Refusal}
 use Rattle.ts_base.specs.declared.refusal.Refusal.TheVariants.{WindowGone}
 use Rattle.ts_row.specs.declared.value.Literal.{Literal}
-use Rattle.ts_row.specs.Row.{Row}
-use Rattle.ts_row.specs.Element.{Element}
-use Rattle.ts_calendar.specs.Intervals.{IsLaid}
+use Rattle.ts_row.specs.Row.{Row, Element}
+use Rattle.ts_calendar.specs.Calendars.{IsLaid}
 use Rattle.ts_offset.specs.declared.shape.Shape.TheVariants as shapes
 use Rattle.ts_offset.specs.Grid.{GridPlan, offset_of}
 use Rattle.ts_model.specs.Catalogue.{Catalogue, Named, Series, Elements, Irregular, name_cmp, columns_of, shape_of}
-use Rattle.ts_rolling.specs.Keys.{most_windows, most_kept, window_key, control_key}
-use Rattle.ts_rolling.specs.Plan.{Planned, a_plan, later, greatest, is_old, is_gone, going, plan_for, plan_at, planned}
-use Rattle.ts_rolling.specs.Sets.{live, windows}
+use Rattle.ts_rolling.specs.Sets.{most_windows, most_kept, window_key, control_key, Planned, a_plan, later, greatest, is_old, is_gone, going, plan_for, plan_at, planned, live, windows}
 use Rattle.ts_rolling.specs.Kept.{last_puts, window_of}
 use Rattle.ts_answer.specs.Answer.{Answered, known, a_row, an_address, addressed, wanted, put_no_dups, create_irregular}
-use Rattle.ts_answer.specs.Rolling.{with_window}
+use Rattle.ts_answer.specs.Elements.{with_window}
 use Rattle.ts_rolling_laws.proofs.CameLemmas.{came, on_ok, same_Ok, wanted_is}
 use Rattle.ts_rolling_laws.proofs.NumberLemmas.{has, stands, eq_refl, eq_same, eq_apart, same_newest, stands-other, stands-own, own_young, none_yet}
 use Rattle.ts_rolling_laws.proofs.OffsetLemmas.{offset_few}

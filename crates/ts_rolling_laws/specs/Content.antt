@@ -4,18 +4,16 @@ use Rattle.std.specs.Prelude.{Contains, Ok, pos}
 use Rattle.std.specs.List.{AllByRecursion}
 use Rattle.std.specs.FinMap.{get}
 use Rattle.ts_row.specs.declared.value.Literal.{Literal}
-use Rattle.ts_row.specs.Row.{Row}
-use Rattle.ts_row.specs.Element.{Element}
-use Rattle.ts_calendar.specs.Plan.{CalendarPlan}
-use Rattle.ts_calendar.specs.Intervals.{IsLaid}
+use Rattle.ts_row.specs.Row.{Row, Element}
+use Rattle.ts_calendar.specs.Calendars.{CalendarPlan, IsLaid}
 use Rattle.ts_offset.specs.Grid.{GridPlan, grid_of}
 use Rattle.ts_command.specs.declared.command.Command.{Command}
 use Rattle.ts_command.specs.declared.command.Command.TheVariants as commands
 use Rattle.ts_command.specs.Form.{HasForm}
 use Rattle.ts_model.specs.declared.kind.Kind.TheVariants as kinds
 use Rattle.ts_model.specs.Catalogue.{Series, Catalogue, columns_of}
-use Rattle.ts_rolling.specs.Keys.{is_set, most_windows, most_kept, window_key, read_window, read_control}
-use Rattle.ts_rolling.specs.Sets.{control_of, window_elements}
+use Rattle.ts_rolling.specs.Sets.{is_set, most_windows, most_kept, window_key, read_window, read_control, control_of}
+use Rattle.ts_rolling.specs.Sets.{window_elements}
 use Rattle.ts_rolling.specs.SetLaws.{window_in}
 use Rattle.ts_rolling.specs.Kept.{kept}
 use Rattle.ts_answer.specs.Answer.{Tried, Answered, outcome, answer, a_row, a_calendar}

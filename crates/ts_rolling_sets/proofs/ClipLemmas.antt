@@ -7,11 +7,9 @@ use Rattle.std.specs.FinMap.{entries}
 use Rattle.ts_base.specs.declared.refusal.Refusal.{Refusal}
 use Rattle.ts_base.specs.declared.refusal.Refusal.TheVariants.{TooLarge}
 use Rattle.ts_row.specs.declared.kind.Column.{Column}
-use Rattle.ts_row.specs.RowType.{Heading}
-use Rattle.ts_row.specs.Element.{Element, seen}
+use Rattle.ts_row.specs.Row.{Heading, Element, seen}
 use Rattle.ts_space.specs.Directory.{places_of}
-use Rattle.ts_entry.specs.Entry.{Entry, filled}
-use Rattle.ts_entry.specs.Reading.{reading, clipped}
+use Rattle.ts_entry.specs.Entry.{Entry, filled, reading, clipped}
 use Rattle.ts_base.specs.Answer.{most_rows, within_rows}
 use Rattle.ts_offset.specs.declared.shape.Shape.{Shape}
 use Rattle.ts_offset.specs.declared.shape.Shape.TheVariants.{Irregular}

@@ -12,25 +12,21 @@ use Rattle.ts_base.specs.declared.refusal.Refusal.TheVariants as refusals
 use Rattle.ts_base.specs.declared.fault.Trouble.{Trouble}
 use Rattle.ts_base.specs.declared.fault.Trouble.TheVariants.{Refused, Memory}
 use Rattle.ts_row.specs.declared.value.Literal.{Literal}
-use Rattle.ts_row.specs.Row.{Row, row_of, IsRowTrouble}
+use Rattle.ts_row.specs.Row.{Row, row_of, IsRowTrouble, Heading}
 use Rattle.ts_row.specs.declared.kind.Column.{Column}
-use Rattle.ts_row.specs.RowType.{Heading}
 use Rattle.ts_offset.specs.Grid.{GridPlan}
 use Rattle.ts_offset.specs.declared.shape.Shape.{Shape}
 use Rattle.ts_offset.specs.declared.shape.Shape.TheVariants as shapes
 use Rattle.ts_model.specs.declared.kind.Kind.TheVariants as kinds
-use Rattle.ts_model.specs.Catalogue.{Series, Catalogue, name_cmp, columns_of, shape_of}
-use Rattle.ts_model.specs.Kinds.{without}
+use Rattle.ts_model.specs.Catalogue.{Series, Catalogue, name_cmp, columns_of, shape_of, without}
 use Rattle.ts_model.specs.Definitions.{SeriesDef, at_slot}
 use Rattle.ts_layout.specs.Meaning.{Layout, catalogue_of, heading_at, shape_at}
 use Rattle.ts_layout.proofs.CallerLemmas.{one_of, series_at}
-use Rattle.ts_rolling.specs.Keys.{most_kept, is_set, control_key, read_control}
-use Rattle.ts_rolling.specs.Plan.{Planned, planned}
-use Rattle.ts_rolling.specs.Sets.{controls, control_of, windows, live}
+use Rattle.ts_rolling.specs.Sets.{most_kept, is_set, control_key, read_control, Planned, planned, controls, control_of, windows, live}
 use Rattle.ts_rolling.proofs.KeyLemmas.{control_form, controls_cmp}
 use Rattle.ts_rolling.proofs.NumberedLemmas.{tested, find-picked}
 use Rattle.ts_answer.specs.Answer.{Tried, Answered, ◌>>=◌, known, a_row}
-use Rattle.ts_answer.specs.Rolling.{a_control, grid_in, control_grid, put_planned, roll_put, roll_drop, without_windows}
+use Rattle.ts_answer.specs.Elements.{a_control, grid_in, control_grid, put_planned, roll_put, roll_drop, without_windows}
 use Rattle.ts_answer.specs.Reply.{count_line}
 use Rattle.ts_answer.specs.Tried.{IsTried, IsRefusedAs}
 use Rattle.ts_answer.specs.Slots.{IsSlotNamed}

@@ -18,8 +18,7 @@ use Rattle.ts_answer.specs.Answer.{Tried}
 use Rattle.ts_answer.specs.Slots.{IsSlotNamed, Stands}
 use Rattle.ts_answer.specs.Tried.{IsRefusedAs}
 use Rattle.ts_answer.specs.View.{View, IsViewOf, KeepsRules}
-use Rattle.ts_rolling.specs.Plan.{a_plan, planned}
-use Rattle.ts_rolling.specs.Sets.{windows, live}
+use Rattle.ts_rolling.specs.Sets.{a_plan, planned, windows, live}
 use Rattle.ts_rolling.proofs.PlanLemmas.{all_going}
 use Rattle.ts_shelf.proofs.SeenLemmas.{SeriesIn}
 use Rattle.ts_shelf.proofs.MemoryLemmas.{bare_of, bare_rules, series_kept}

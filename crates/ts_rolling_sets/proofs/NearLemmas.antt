@@ -9,8 +9,7 @@ use Rattle.std.specs.Option.{option_map}
 use Rattle.std.specs.List.{AllByRecursion, list_any}
 use Rattle.std.specs.List.Sorted.{IsStrictlyIncreasing}
 use Rattle.ts_base.specs.declared.refusal.Refusal.TheVariants.{WindowGone}
-use Rattle.ts_rolling.specs.Keys.{window_key}
-use Rattle.ts_rolling.specs.Plan.{a_plan, later, greatest, is_old, is_gone, going, plan_for}
+use Rattle.ts_rolling.specs.Sets.{window_key, a_plan, later, greatest, is_old, is_gone, going, plan_for}
 use Rattle.ts_rolling.proofs.PlanLemmas.{is_old-earlier, later_first, later_second, later-less, later-zero, greatest_last, gone_is}
 use Rattle.ts_rolling_sets.specs.declared.live.Window.{Window}
 use Rattle.ts_rolling_sets.specs.Near.{newest, key_if}

@@ -10,10 +10,9 @@ use Rattle.ts_model.specs.declared.kind.Kind.TheVariants as kinds
 use Rattle.ts_model.specs.Catalogue.{Series, Catalogue, is_regular}
 use Rattle.ts_model.specs.Definitions.{Definitions, SeriesDef, slots, slot_of}
 use Rattle.ts_layout.specs.Meaning.{Layout, IsSound, series_of, catalogue_of}
-use Rattle.ts_rolling.specs.Keys.{most_windows, window_key, read_control, read_window}
+use Rattle.ts_rolling.specs.Sets.{most_windows, window_key, read_control, read_window, control_if_any, window_if_any, may_be_window, controls, windows, control_of, live}
 use Rattle.ts_rolling.proofs.KeyLemmas.{window_form, windows_cmp}
 use Rattle.ts_rolling.proofs.NumberedLemmas.{good-picked, sorted-picked, numbers_rise}
-use Rattle.ts_rolling.specs.Sets.{control_if_any, window_if_any, may_be_window, controls, windows, control_of, live}
 use Rattle.ts_answer.specs.View.{View, KeepsRules}
 use Rattle.ts_shelf.proofs.MemoryLemmas.{bare_of, bare_rules}
 use Rattle.ts_tell.proofs.InOrderLemmas.{walk, Stands, AllStand, index_walk, series_walk, walk_stands, same_test, lies_as}

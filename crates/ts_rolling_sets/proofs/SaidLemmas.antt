@@ -9,8 +9,8 @@ use Rattle.ts_base.specs.declared.fault.Trouble.{Trouble}
 use Rattle.ts_base.specs.declared.fault.Trouble.TheVariants.{Refused, Memory}
 use Rattle.ts_command.specs.declared.command.Command.TheVariants.{RollingClip}
 use Rattle.ts_row.specs.declared.kind.Column.{Column}
-use Rattle.ts_row.specs.Element.{Element, seen}
-use Rattle.ts_sheets.specs.Range.{within_range}
+use Rattle.ts_row.specs.Row.{Element, seen}
+use Rattle.ts_sheets.specs.Stamped.{within_range}
 use Rattle.ts_entry.specs.Entry.{filled}
 use Rattle.ts_base.specs.Answer.{most_rows, within_rows}
 use Rattle.ts_offset.specs.Grid.{GridPlan}
@@ -19,7 +19,7 @@ use Rattle.ts_layout.specs.Meaning.{Layout, elements_at}
 use Rattle.ts_layout.proofs.CallerLemmas.{len_counted}
 use Rattle.ts_rolling.specs.Sets.{control_of, window_elements}
 use Rattle.ts_answer.specs.Answer.{Tried, Answered, ◌>>=◌, outcome, carried_out}
-use Rattle.ts_answer.specs.Rolling.{a_control, control_grid, roll_clip}
+use Rattle.ts_answer.specs.Elements.{a_control, control_grid, roll_clip}
 use Rattle.ts_answer.specs.Reply.{element_line, elements_text, entry_line, count_line}
 use Rattle.ts_answer.specs.Tried.{IsRefusedAs}
 use Rattle.ts_answer.specs.View.{View, IsViewOf, KeepsRules}

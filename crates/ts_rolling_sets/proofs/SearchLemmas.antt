@@ -17,7 +17,7 @@ use Rattle.ts_model.specs.Definitions.{Definitions, SeriesDef, at_slot, slots, o
 use Rattle.ts_model.proofs.OrderLemmas.{total, both, below_each}
 use Rattle.ts_model.proofs.IndexLemmas.{index, index-sorted, index-length, index-slot}
 use Rattle.ts_layout.proofs.CallerLemmas.{own}
-use Rattle.ts_rolling.specs.Keys.{most_windows, numbered_key, digits_of, window_key, control_key, read_window, read_control}
+use Rattle.ts_rolling.specs.Sets.{most_windows, numbered_key, digits_of, window_key, control_key, read_window, read_control}
 use Rattle.ts_rolling.proofs.DigitLemmas.{length-digits_of, all_digits-digits_of, digit_at}
 use Rattle.ts_rolling.proofs.KeyLemmas.{window_form, control_form, cmp-front}
 use Rattle.ts_rolling_sets.specs.InMemory.{control_at, control_if, window_at, window_if, in_order, kept_in, live_in}

@@ -8,17 +8,15 @@ use Rattle.std.specs.declared.cmp.Ordering.{Ordering}
 use Rattle.std.specs.declared.cmp.Ordering.TheVariants.{Less, Equal, Greater}
 use Rattle.std.specs.FinMap.{put, entries, empty, from_entries, entries-insert, len-entries, len-empty}
 use Rattle.std.specs.FinMap.Entries.{by_order}
-use Rattle.ts_row.specs.RowType.{Heading}
-use Rattle.ts_row.specs.Element.{Element, seen}
-use Rattle.ts_sheets.specs.Range.{within_range, is_within}
+use Rattle.ts_row.specs.Row.{Heading, Element, seen}
+use Rattle.ts_sheets.specs.Stamped.{within_range, is_within}
 use Rattle.ts_model.specs.declared.kind.Kind.TheVariants as kinds
 use Rattle.ts_model.specs.Catalogue.{name_cmp, Series}
 use Rattle.ts_model.specs.Definitions.{Definitions, SeriesDef, at_slot, slots, slot_of, IsDefinitions}
 use Rattle.ts_model.proofs.OrderLemmas.{total}
 use Rattle.ts_layout.specs.Meaning.{Layout, IsSound, heading_in, heading_at, shape_of, series_of, catalogue_of}
 use Rattle.ts_layout.proofs.CallerLemmas.{series_at}
-use Rattle.ts_rolling.specs.Keys.{read_window}
-use Rattle.ts_rolling.specs.Sets.{window_if_any, windows, window_elements, may_be_window}
+use Rattle.ts_rolling.specs.Sets.{read_window, window_if_any, windows, window_elements, may_be_window}
 use Rattle.ts_answer.specs.Slots.{IsSlotNamed}
 use Rattle.ts_answer.specs.View.{View, KeepsRules, IsViewOf}
 use Rattle.ts_shelf.proofs.MemoryLemmas.{bare_of, bare_rules}

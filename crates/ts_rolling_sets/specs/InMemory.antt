@@ -2,17 +2,16 @@
 use Rattle.std.specs.Prelude.{◌≡◌, ℕ, ◌==◌, ◌&&◌, is_none, if◌then◌else◌, option_and_then, option_map, Option, Some, None, List}
 use Rattle.std.specs.List.{filter_map}
 use Rattle.std.specs.FinMap.{values}
-use Rattle.ts_row.specs.RowType.{Heading}
+use Rattle.ts_row.specs.Row.{Heading}
 use Rattle.ts_offset.specs.Grid.{GridPlan}
 use Rattle.ts_offset.specs.declared.shape.Shape.TheVariants.{Regular}
 use Rattle.ts_model.specs.declared.kind.Kind.TheVariants as kinds
 use Rattle.ts_model.specs.Catalogue.{Series, Catalogue}
 use Rattle.ts_model.specs.Definitions.{Definitions, SeriesDef, at_slot, slots, slots_by_name}
 use Rattle.ts_layout.specs.Meaning.{Layout, catalogue_of}
-use Rattle.ts_rolling.specs.Keys.{control_key, read_control, read_window}
-use Rattle.ts_rolling.specs.Sets.{control_of}
-use Rattle.ts_answer.specs.Refusals.{Tried, ◌>>=◌}
-use Rattle.ts_answer.specs.Rolling.{a_control, control_grid}
+use Rattle.ts_rolling.specs.Sets.{control_key, read_control, read_window, control_of}
+use Rattle.ts_answer.specs.Reply.{Tried, ◌>>=◌}
+use Rattle.ts_answer.specs.Elements.{a_control, control_grid}
 use Rattle.ts_shelf.specs.Shelf.{IsShelfIn}
 
 -- a series of this key stands in a slot

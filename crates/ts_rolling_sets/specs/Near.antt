@@ -1,7 +1,6 @@
 -- The newest of a set's windows, and the one of a put.
 use Rattle.std.specs.Prelude.{ℕ, Bool, if◌then◌else◌, Option, Some, None, List, [], ◌∷◌}
-use Rattle.ts_rolling.specs.Keys.{window_key}
-use Rattle.ts_rolling.specs.Plan.{greatest}
+use Rattle.ts_rolling.specs.Sets.{window_key, greatest}
 
 -- the greatest of windows, if there are any
 abbrev pub newest : List ℕ → Option ℕ

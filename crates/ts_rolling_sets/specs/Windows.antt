@@ -3,9 +3,8 @@ use Rattle.std.specs.Prelude.{◌≡◌, ℕ, ℤ, is_some, Option, Some, None, 
 use Rattle.std.specs.FinMap.{entries}
 use Rattle.ts_base.specs.declared.refusal.Refusal.{Refusal}
 use Rattle.ts_row.specs.declared.kind.Column.{Column}
-use Rattle.ts_row.specs.RowType.{Heading}
-use Rattle.ts_row.specs.Element.{Element, seen}
-use Rattle.ts_sheets.specs.Range.{within_range}
+use Rattle.ts_row.specs.Row.{Heading, Element, seen}
+use Rattle.ts_sheets.specs.Stamped.{within_range}
 use Rattle.ts_entry.specs.Entry.{Entry, filled}
 use Rattle.ts_base.specs.Answer.{within_rows}
 use Rattle.ts_offset.specs.declared.shape.Shape.TheVariants.{Irregular}

@@ -5,7 +5,7 @@ ghost use Rattle.ts_row.specs.declared.kind.Column.{Column};
 ghost use Rattle.ts_command.specs.declared.command.Command.TheVariants.{RollingClip};
 ghost use Rattle.ts_irregular.specs.Call.{Reads};
 ghost use Rattle.ts_layout.specs.Meaning.{Layout, heading_at};
-ghost use Rattle.ts_rolling.specs.Keys.{is_set};
+ghost use Rattle.ts_rolling.specs.Sets.{is_set};
 ghost use Rattle.ts_answer.specs.View.{view, IsSeen, Shows};
 ghost use Rattle.ts_answer.specs.CarriedOut.{ReadOut};
 ghost use Rattle.ts_entry.specs.Entry.{filled};

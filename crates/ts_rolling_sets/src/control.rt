@@ -2,7 +2,7 @@
 ghost use Rattle.std.specs.Prelude.{◌≡◌, ◌≤◌, ◌<◌, ◌++◌, codes, IsTrue, IsSome, IfSome, IfOk, IfErr};
 ghost use Rattle.ts_model.specs.Definitions.{series_slots, container_slots, at_slot, IsDefinitions};
 ghost use Rattle.ts_layout.specs.Meaning.{Layout, AreThere, catalogue_of};
-ghost use Rattle.ts_rolling.specs.Keys.{is_set, control_key};
+ghost use Rattle.ts_rolling.specs.Sets.{is_set, control_key};
 ghost use Rattle.ts_answer.specs.Tried.{IsRefusedAs};
 ghost use Rattle.ts_answer.specs.View.{view, IsSeen, IsViewOf};
 ghost use Rattle.ts_offset.specs.declared.shape.Shape.TheVariants.{Regular};

@@ -3,7 +3,7 @@ ghost use Rattle.std.specs.Prelude.{◌≡◌, ◌≤◌, ◌<◌, ◌++◌, ◌
 ghost use Rattle.std.specs.Prelude.{if◌then◌else◌, option_to_list};
 ghost use Rattle.std.specs.Option.{option_map};
 ghost use Rattle.ts_model.specs.Definitions.{series_slots};
-ghost use Rattle.ts_rolling.specs.Keys.{control_key, window_key, read_control, read_window};
+ghost use Rattle.ts_rolling.specs.Sets.{control_key, window_key, read_control, read_window};
 ghost use Rattle.ts_rolling_sets.specs.InMemory.{IsKeyIn, control_at, window_at, kept_in, live_in};
 ghost use Rattle.ts_rolling_sets.specs.Order.{IsPlace};
 ghost use Rattle.ts_rolling_sets.specs.Windows.{window_slots_in};

@@ -7,9 +7,7 @@ use Rattle.ts_row.specs.declared.kind.ColumnKind.TheVariants.{SmallInt, Integer,
 use Rattle.ts_row.specs.declared.kind.Column.{Column}
 use Rattle.ts_row.specs.declared.value.Value.{Value}
 use Rattle.ts_row.specs.declared.value.Value.TheVariants.{Null, Number, Text}
-use Rattle.ts_row.specs.RowType.{is_kind, scale_of}
-use Rattle.ts_row.specs.Row.{Values, Row, holds_size, holds, hold, fits, marked, rescaled, with_sign, size_if_any, value_if_any, values_from, visible_if_any, row_of}
-use Rattle.ts_row.specs.Printed.{literal_of, value_literals, literals_of}
+use Rattle.ts_row.specs.Row.{is_kind, scale_of, Values, Row, holds_size, holds, hold, fits, marked, rescaled, with_sign, size_if_any, value_if_any, values_from, visible_if_any, row_of, literal_of, value_literals, literals_of}
 use Rattle.ts_row.proofs.LiteralLemmas.{rescaled-raise}
 
 first_of_two : (a b : Bool) → IsTrue (a && b) → IsTrue a

@@ -4,8 +4,7 @@ use Rattle.std.proofs.lemmas.Bool.Decides.{nat_tests}
 use Rattle.ts_row.specs.declared.kind.ColumnKind.{ColumnKind}
 use Rattle.ts_row.specs.declared.kind.Column.{Column}
 use Rattle.ts_row.specs.declared.value.Value.{Value}
-use Rattle.ts_row.specs.RowType.{column_width}
-use Rattle.ts_row.specs.Row.{Values}
+use Rattle.ts_row.specs.Row.{column_width, Values}
 use Rattle.ts_row.specs.Decoding.{value_in, put_first, values_in}
 use Rattle.ts_row.proofs.ValueBytesLemmas.{column_width-positive}
 

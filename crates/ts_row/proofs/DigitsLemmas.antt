@@ -11,8 +11,8 @@ use Rattle.std.proofs.lemmas.List.Sums.{fold-append}
 use Rattle.std.proofs.Math.Arith.{mod-mul}
 use Rattle.std.proofs.Math.Nat.{pow-suc, div-le_self}
 use Rattle.std.proofs.lemmas.Nat.{div-add-mod'}
-use Rattle.ts_base.specs.StampText.{with_digit, number_of}
-use Rattle.ts_row.specs.Printed.{last_digits, size_text, number_text}
+use Rattle.ts_base.specs.Moment.{with_digit, number_of}
+use Rattle.ts_row.specs.Row.{last_digits, size_text, number_text}
 use Rattle.ts_row.proofs.LiteralLemmas.{ten_pow_positive}
 
 -- a digit is one

@@ -6,8 +6,7 @@ use Rattle.std.proofs.lemmas.Nat.{pow-add, mod-mul-add, div-mul-add}
 use Rattle.std.proofs.Math.Nat.{mul-mod_left, mul-div_cancel, mod-eq_of_lt, mul-lt-mul_of_pos_right, mul_comm, pow-le-pow_right, one-le-pow}
 use Rattle.ts_row.specs.declared.kind.ColumnKind.{ColumnKind}
 use Rattle.ts_row.specs.declared.kind.ColumnKind.TheVariants.{SmallInt, Integer, BigInt, Decimal, VarChar}
-use Rattle.ts_row.specs.RowType.{is_kind}
-use Rattle.ts_row.specs.Row.{rescaled, holds_size, size_if_held, size_if_fits}
+use Rattle.ts_row.specs.Row.{is_kind, rescaled, holds_size, size_if_held, size_if_fits}
 
 -- a power of ten is above 0
 pub ten_pow_positive : (k : ℕ) → 0 < 10 ^ k

@@ -3,9 +3,7 @@ use Rattle.std.proofs.Common.{◌≡◌, ℕ, zero, suc, Bool, false, ◌+◌, �
 use Rattle.std.specs.Fmt.{decimal}
 use Rattle.ts_row.specs.declared.kind.Column.{Column}
 use Rattle.ts_row.specs.declared.value.Value.{Value}
-use Rattle.ts_row.specs.RowType.{scale_of}
-use Rattle.ts_row.specs.Row.{Values}
-use Rattle.ts_row.specs.Printed.{value_text, values_text, Extends}
+use Rattle.ts_row.specs.Row.{scale_of, Values, value_text, values_text, Extends}
 use Rattle.std.proofs.Math.Seq.{take-append_seam}
 use Rattle.std.proofs.lemmas.Fmt.{decimal_digit, decimal_step_wide}
 

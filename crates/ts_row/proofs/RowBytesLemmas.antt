@@ -9,8 +9,7 @@ use Rattle.std.proofs.lemmas.List.Sums.{sum_by-cons}
 use Rattle.std.proofs.Math.Seq.{take-append_seam, drop-append_seam}
 use Rattle.ts_row.specs.declared.kind.Column.{Column}
 use Rattle.ts_row.specs.declared.value.Value.{Value}
-use Rattle.ts_row.specs.RowType.{is_kind, column_width, width_of}
-use Rattle.ts_row.specs.Row.{Values, Row, holds, hold, fits, visible, marked}
+use Rattle.ts_row.specs.Row.{is_kind, column_width, width_of, Values, Row, holds, hold, fits, visible, marked}
 use Rattle.ts_row.specs.Encoding.{value_bytes, values_bytes, mark_byte, with_mark, row_bytes, IsMeaning, AreRowBytes, IsMarkOf, Marks}
 use Rattle.ts_row.specs.Decoding.{value_in, put_first, values_in, is_mark, unmarked, row_in}
 use Rattle.ts_row.proofs.ValueBytesLemmas.{value_in-value_bytes, length-value_bytes, value_bytes-value_in, column_width-positive, value_bytes-flag}

@@ -9,8 +9,7 @@ use Rattle.ts_row.specs.declared.value.Value.{Value}
 use Rattle.ts_row.specs.declared.value.Value.TheVariants.{Null, Number, Text}
 use Rattle.ts_row.specs.declared.value.Literal.{Literal}
 use Rattle.ts_row.specs.declared.value.Literal.TheVariants.{Null as NullLiteral, Number as NumberLiteral, Text as TextLiteral}
-use Rattle.ts_row.specs.RowType.{scale_of}
-use Rattle.ts_row.specs.Row.{Values, Row, holds, holds_size, holds_text, hold, fits, visible, takes_scale, rescaled, with_sign, size_if_held, size_if_any, value_if_any, with_first, values_from, visible_if_any, row_of, IsTroubleOf}
+use Rattle.ts_row.specs.Row.{scale_of, Values, Row, holds, holds_size, holds_text, hold, fits, visible, takes_scale, rescaled, with_sign, size_if_held, size_if_any, value_if_any, with_first, values_from, visible_if_any, row_of, IsTroubleOf}
 use Rattle.ts_base.specs.declared.fault.Trouble.{Trouble}
 use Rattle.ts_base.specs.declared.fault.Trouble.TheVariants.{Refused, Memory}
 

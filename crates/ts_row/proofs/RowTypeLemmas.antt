@@ -8,7 +8,7 @@ use Rattle.std.proofs.lemmas.List.{map-append, take_more, take_all}
 use Rattle.std.proofs.lemmas.List.Folds.{list_any-append, list_all-append}
 use Rattle.std.proofs.lemmas.List.Sums.{sum_by-append}
 use Rattle.ts_row.specs.declared.kind.Column.{Column}
-use Rattle.ts_row.specs.RowType.{column_width, is_kind, width_of, names_of, is_repeated, is_among, are_distinct, keep_rules, may_follow, is_row_type, least_from, bad_column}
+use Rattle.ts_row.specs.Row.{column_width, is_kind, width_of, names_of, is_repeated, is_among, are_distinct, keep_rules, may_follow, is_row_type, least_from, bad_column}
 
 -- no number passes
 pub least_from-none : (first count : ℕ) (test : ℕ → Bool) → ((n : ℕ) → first ≤ n → n < first + count → test n ≡ false) → least_from first count test ≡ None

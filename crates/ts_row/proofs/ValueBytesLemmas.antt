@@ -13,8 +13,7 @@ use Rattle.ts_row.specs.declared.kind.ColumnKind.{ColumnKind}
 use Rattle.ts_row.specs.declared.kind.ColumnKind.TheVariants.{SmallInt, Integer, BigInt, Decimal, VarChar}
 use Rattle.ts_row.specs.declared.value.Value.{Value}
 use Rattle.ts_row.specs.declared.value.Value.TheVariants.{Null, Number, Text}
-use Rattle.ts_row.specs.RowType.{is_kind, column_width}
-use Rattle.ts_row.specs.Row.{holds, holds_size, holds_text}
+use Rattle.ts_row.specs.Row.{is_kind, column_width, holds, holds_size, holds_text}
 use Rattle.ts_row.specs.Encoding.{number_bytes, text_bytes, value_bytes}
 use Rattle.ts_row.specs.Decoding.{all_zero, number_in, number_if_held, text_in, filled_in, value_in}
 use Rattle.ts_row.proofs.EncodingLemmas.{short_bound}

@@ -10,9 +10,8 @@ use Rattle.ts_row.specs.declared.kind.ColumnKind.TheVariants.{SmallInt, Integer,
 use Rattle.ts_row.specs.declared.kind.Column.{Column}
 use Rattle.ts_row.specs.declared.value.Value.{Value}
 use Rattle.ts_row.specs.declared.value.Value.TheVariants.{Null, Number, Text}
-use Rattle.ts_row.specs.RowType.{short_digits, column_width}
+use Rattle.ts_row.specs.Row.{short_digits, column_width, Values, Row, holds_size, visible}
 use Rattle.ts_row.specs.Encoding.{hidden_mark}
-use Rattle.ts_row.specs.Row.{Values, Row, holds_size, visible}
 
 -- zeros and nothing else
 abbrev pub all_zero : List ℕ → Bool

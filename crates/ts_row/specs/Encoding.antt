@@ -7,8 +7,7 @@ use Rattle.ts_row.specs.declared.kind.ColumnKind.TheVariants.{SmallInt, Integer,
 use Rattle.ts_row.specs.declared.kind.Column.{Column}
 use Rattle.ts_row.specs.declared.value.Value.{Value}
 use Rattle.ts_row.specs.declared.value.Value.TheVariants.{Null, Number, Text}
-use Rattle.ts_row.specs.RowType.{short_digits, column_width}
-use Rattle.ts_row.specs.Row.{Values, Row, fits, marked}
+use Rattle.ts_row.specs.Row.{short_digits, column_width, Values, Row, fits, marked}
 
 -- the bytes of a number: two's complement, the highest byte first
 abbrev pub number_bytes : ColumnKind → ℤ → List ℕ

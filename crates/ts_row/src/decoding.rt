@@ -3,7 +3,7 @@ ghost use Rattle.std.specs.Prelude.{◌≡◌, ◌≤◌, ◌+◌, ◌∷◌, �
 ghost use Rattle.std.specs.Prelude.{true, false};
 ghost use Rattle.std.specs.List.{list_all};
 ghost use Rattle.std.specs.Int.{cast_signed, from_be_bytes, w64, w128};
-ghost use Rattle.ts_row.specs.RowType.{column_width, is_kind};
+ghost use Rattle.ts_row.specs.Row.{column_width, is_kind};
 ghost use Rattle.ts_row.specs.Decoding.{all_zero, number_in, text_in, filled_in, value_in, values_in, row_in};
 
 use crate::mark::{is_mark, unmarked};

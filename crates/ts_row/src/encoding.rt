@@ -3,8 +3,7 @@ ghost use Rattle.std.specs.Prelude.{◌≡◌, ◌+◌, ◌-◌, ◌^◌, ◌<�
 ghost use Rattle.std.specs.Prelude.{unsigned_abs, replicate};
 ghost use Rattle.std.specs.List.{list_all};
 ghost use Rattle.std.specs.Int.{w64, w128, to_be_bytes, cast_unsigned};
-ghost use Rattle.ts_row.specs.RowType.{column_width, is_kind, width_of};
-ghost use Rattle.ts_row.specs.Row.{holds, holds_size, hold};
+ghost use Rattle.ts_row.specs.Row.{column_width, is_kind, width_of, holds, holds_size, hold};
 ghost use Rattle.ts_row.specs.Encoding.{number_bytes, value_bytes, values_bytes};
 
 use crate::{Column, ColumnKind, SHORT_DIGITS, Value};

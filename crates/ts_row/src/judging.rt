@@ -1,7 +1,7 @@
 // Whether bytes are a row's, told without making the row.
 ghost use Rattle.std.specs.Prelude.{◌≡◌, ◌≤◌, ◌+◌, ◌∷◌, IsTrue, is_some, length};
 ghost use Rattle.std.specs.List.{list_all};
-ghost use Rattle.ts_row.specs.RowType.{column_width, is_kind};
+ghost use Rattle.ts_row.specs.Row.{column_width, is_kind};
 ghost use Rattle.ts_row.specs.Decoding.{text_in, filled_in, value_in, values_in, row_in};
 
 use crate::decoding::decode_number;

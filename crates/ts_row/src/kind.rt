@@ -1,6 +1,5 @@
 ghost use Rattle.std.specs.Prelude.{◌≡◌, ◌<◌, ◌≤◌, ◌^◌, nat_lt, if◌then◌else◌, IsTrue};
-ghost use Rattle.ts_row.specs.RowType.{column_width, is_kind, is_long, scale_of};
-ghost use Rattle.ts_row.specs.Row.{holds_size, holds_text, takes_scale};
+ghost use Rattle.ts_row.specs.Row.{column_width, is_kind, is_long, scale_of, holds_size, holds_text, takes_scale};
 
 use ts_base::{Name, is_text};
 

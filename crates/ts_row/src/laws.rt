@@ -2,10 +2,9 @@
 ghost use Rattle.std.specs.Prelude.{ℕ, ℤ, Bool, false, ◌≡◌, ◌^◌, ◌<◌, List, filter, unsigned_abs, IsTrue, Some, Ok};
 ghost use Rattle.std.specs.List.{list_all};
 ghost use Rattle.std.specs.Char.{is_ascii_digit};
-ghost use Rattle.ts_base.specs.StampText.{number_of};
-ghost use Rattle.ts_row.specs.RowType.{is_kind, scale_of};
-ghost use Rattle.ts_row.specs.Row.{Row, holds, fits, value_if_any, marked, row_of};
-ghost use Rattle.ts_row.specs.Printed.{number_text, row_text, literal_of, literals_of};
+ghost use Rattle.ts_base.specs.Moment.{number_of};
+ghost use Rattle.ts_row.specs.Row.{is_kind, scale_of, Row, holds, fits, value_if_any, marked, row_of, number_text};
+ghost use Rattle.ts_row.specs.Row.{row_text, literal_of, literals_of};
 
 use crate::{Column, ColumnKind, Value};
 

@@ -1,9 +1,9 @@
 //! Row types and rows: the columns that a row type may have, the row that literals give, its bytes and its text. `make`
-//! refuses exactly the first column that breaks a rule (`specs/RowType`), `row_of` exactly the first that misfits
-//! (`specs/Row`). A row that fits has one encoding, and bytes mean that row or none (`specs/Encoding`). A row can be
-//! hidden: its first byte is 2 higher then, and nothing else of it differs. Values are printed as `specs/Printed` says,
-//! and what is printed fits again and gives the values back (`laws.rt`). Stands on ts_base; knows nothing of pages or
-//! scripts. Read `specs/RowType.antt`, `specs/Row.antt` and `specs/Element.antt`, then `row_type.rt`.
+//! refuses exactly the first column that breaks a rule, `row_of` exactly the first that misfits (`specs/Row`). A row
+//! that fits has one encoding, and bytes mean that row or none (`specs/Encoding`). A row can be hidden: its first byte
+//! is 2 higher then, and nothing else of it differs. Values are printed as `specs/Row` says, and what is printed fits
+//! again and gives the values back (`laws.rt`). Stands on ts_base; knows nothing of pages or scripts. Read
+//! `specs/Row.antt`, then `row_type.rt`.
 #![tactic(auto)]
 
 mod decoding;

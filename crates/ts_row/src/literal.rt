@@ -2,9 +2,8 @@
 ghost use Rattle.std.specs.Prelude.{◌≡◌, ◌-◌, ◌*◌, ◌/◌, ◌%◌, ◌^◌, ◌==◌, ◌<◌, ◌≤◌, IsTrue, IfOk, IfErr, OnOk, IsOkAnd};
 ghost use Rattle.std.specs.Prelude.{IfSome, ◌+◌, ◌++◌, length, Some, None, if◌then◌else◌};
 ghost use Rattle.std.specs.Option.{option_and_then};
-ghost use Rattle.ts_row.specs.RowType.{is_kind};
-ghost use Rattle.ts_row.specs.Row.{rescaled, size_if_any, size_if_fits, value_if_any, with_sign};
-ghost use Rattle.ts_row.specs.Row.{values_from, IsTroubleOf};
+ghost use Rattle.ts_row.specs.Row.{is_kind, rescaled, size_if_any, size_if_fits, value_if_any, with_sign, values_from};
+ghost use Rattle.ts_row.specs.Row.{IsTroubleOf};
 ghost use Rattle.std.specs.List.{list_all};
 ghost use Rattle.ts_base.specs.declared.fault.Trouble.TheVariants.{Refused};
 ghost use Rattle.ts_base.specs.declared.refusal.Refusal.TheVariants.{RowMismatch};

@@ -2,9 +2,8 @@
 ghost use Rattle.std.specs.Prelude.{◌≡◌, ◌↔◌, ◌⊎◌, ◌≤◌, ◌++◌, IsTrue, OnOk, OnErr, length};
 ghost use Rattle.std.specs.List.{list_all, flat_map};
 ghost use Rattle.std.specs.Fmt.{decimal};
-ghost use Rattle.ts_row.specs.RowType.{is_kind};
-ghost use Rattle.ts_row.specs.Printed.{last_digits, fraction_text, size_text, number_text, quoted, value_text};
-ghost use Rattle.ts_row.specs.Printed.{values_text, Extends};
+ghost use Rattle.ts_row.specs.Row.{is_kind, last_digits, fraction_text, size_text, number_text, quoted, value_text};
+ghost use Rattle.ts_row.specs.Row.{values_text, Extends};
 
 use crate::{Column, Value};
 use std::alloc::{AllocError, Global};

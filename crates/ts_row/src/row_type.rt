@@ -1,9 +1,8 @@
 ghost use Rattle.std.specs.Prelude.{◌≡◌, ◌↔◌, ◌≤◌, ◌++◌, IsTrue, IfOk, IfSome, IfErr, OnOk, OnErr, MatchResult, Ok};
 ghost use Rattle.std.specs.Prelude.{None, length};
-ghost use Rattle.ts_row.specs.RowType.{is_row_type, width_of, has_long_decimal, bad_column, IsBadRowType};
-ghost use Rattle.ts_row.specs.Row.{row_of, IsRowTrouble, fits};
+ghost use Rattle.ts_row.specs.Row.{is_row_type, width_of, has_long_decimal, bad_column, IsBadRowType, row_of};
+ghost use Rattle.ts_row.specs.Row.{IsRowTrouble, fits, row_text};
 ghost use Rattle.ts_row.specs.Encoding.{row_bytes, IsMeaning, AreRowBytes, IsMarkOf, Marks};
-ghost use Rattle.ts_row.specs.Printed.{row_text};
 
 use crate::decoding::decode;
 use crate::encoding::encode_values;
@@ -27,7 +26,7 @@ pub struct RowType {
 
 impl Model for RowType {
     ghost use Rattle.std.specs.Prelude.{◌≡◌, IsTrue};
-    ghost use Rattle.ts_row.specs.RowType.{Heading, is_row_type, width_of};
+    ghost use Rattle.ts_row.specs.Row.{Heading, is_row_type, width_of};
 
     ghost Value = { Heading };
 

@@ -2,7 +2,7 @@
 ghost use Rattle.std.specs.Prelude.{◌≡◌, ◌+◌, ◌<◌, ◌≤◌, ◌∷◌, nat_eq};
 ghost use Rattle.std.specs.List.{list_any};
 ghost use Rattle.std.specs.Cmp.Lexicographic.{pointwise};
-ghost use Rattle.ts_row.specs.RowType.{width_of, names_of, is_repeated, may_follow, bad_column};
+ghost use Rattle.ts_row.specs.Row.{width_of, names_of, is_repeated, may_follow, bad_column};
 
 use crate::Column;
 

@@ -7,7 +7,7 @@ use Rattle.ts_row.specs.Row.{Values}
 use Rattle.ts_running.specs.declared.bind.Source.{Source}
 use Rattle.ts_running.specs.declared.fault.ApplyError.{ApplyError}
 use Rattle.ts_running.specs.declared.fault.ApplyError.TheVariants.{Overflow, Memory}
-use Rattle.ts_running.specs.Operands.{operand, opposite_of, joined_of, number_if_any, numbers, numbers_of, over_numbers, Applies, ApplyFails}
+use Rattle.ts_running.specs.Binding.{operand, opposite_of, joined_of, number_if_any, numbers, numbers_of, over_numbers, Applies, ApplyFails}
 
 -- what is made of the numbers of values is what is made of the values
 pub numbers_are : (values : Values) → over_numbers (numbers_of values) ≡ numbers values

@@ -9,10 +9,8 @@ use Rattle.ts_base.specs.Answer.{Answers, Fails}
 use Rattle.ts_running.specs.declared.step.Step.{Step}
 use Rattle.ts_running.specs.declared.step.Step.TheVariants as step
 use Rattle.ts_running.specs.declared.bind.Source.{Source}
-use Rattle.ts_running.specs.Expr.{Column, Digits, Opposite, Joined, steps_of, all_steps}
-use Rattle.ts_running.specs.Parts.{made_of_all, after_steps, exprs_of}
-use Rattle.ts_running.specs.Grammar.{Named}
-use Rattle.ts_running.specs.Binding.{Sourced, source_named, with_one, with_two, bound_expr, bound_exprs, part_scales, if_small, with_scales, binding, bound_step, bound_steps}
+use Rattle.ts_running.specs.Grammar.{Column, Digits, Opposite, Joined, steps_of, all_steps, Named}
+use Rattle.ts_running.specs.Binding.{made_of_all, after_steps, exprs_of, Sourced, source_named, with_one, with_two, bound_expr, bound_exprs, part_scales, if_small, with_scales, binding, bound_step, bound_steps}
 use Rattle.ts_running.proofs.StepLemmas.{seen_as, made_some, made_none}
 use Rattle.std.specs.Prelude.{reverse}
 

@@ -7,20 +7,15 @@ use Rattle.std.proofs.lemmas.List.{length-take}
 use Rattle.std.proofs.lemmas.Slice.Eq.{bytes_eq-Decides}
 use Rattle.std.specs.Str.{bytes_eq}
 use Rattle.ts_base.specs.Name.{is_blank}
-use Rattle.ts_text.specs.Blanks.{unblanked, are_blanks}
-use Rattle.ts_text.specs.Front.{Front}
-use Rattle.ts_text.specs.Phrase.{Read, Phrase, go_on, ◌>>=◌, give, behind_byte, a_sign, made, token, phrases, the_end, ended, outcome}
+use Rattle.ts_text.specs.Phrase.{unblanked, are_blanks, Front, Read, Phrase, go_on, ◌>>=◌, give, behind_byte, a_sign, made, token, phrases, the_end, ended, outcome, parted_by, if_sign, Signs, by_sign, onward_most, onward, joined_by, sign_or, sign_in}
 use Rattle.ts_text.specs.Place.{everywhere, RefusesInPlace}
-use Rattle.ts_text.specs.Signs.{parted_by, if_sign, Signs, by_sign, onward_most, onward, joined_by, sign_or, sign_in}
 use Rattle.ts_text.specs.declared.token.TokenKind.{TokenKind}
 use Rattle.ts_text.specs.declared.token.TokenKind.TheVariants.{Sign}
 use Rattle.ts_text.proofs.CallerLemmas.{by_sign_some, by_sign_none, onward_enough, one_more, sign_absent, sign_end, sign_other, sign_there, Alike, Any, Carries, Follows, Goes, IsSign, Shrinks, Stops, Yields, YieldsIn, begins, blanked, blanks_before, bind-ok, bytes_taking, in_bytes, sign_is, sign_left, sign_yields, split_same, stops-le, stops_here, token-found, token_is, unblanked_past}
 use Rattle.ts_expr.proofs.EndLemmas.{Way, end_is}
 use Rattle.ts_running.specs.declared.step.Operation.{Operation}
 use Rattle.ts_running.specs.declared.step.Operation.TheVariants.{Plus, Less, Times}
-use Rattle.ts_running.specs.Expr.{Column, Digits, Opposite, Joined}
-use Rattle.ts_running.specs.Front.{expr_front}
-use Rattle.ts_running.specs.Grammar.{Named, joined, name_in, digits_as, digits_in, leaf_in, times_signs, sum_signs, term_of, sum_of, in_bracket, factor_in, expr_in, further, list_in}
+use Rattle.ts_running.specs.Grammar.{Column, Digits, Opposite, Joined, expr_front, Named, joined, name_in, digits_as, digits_in, leaf_in, times_signs, sum_signs, term_of, sum_of, in_bracket, factor_in, expr_in, further, list_in}
 use Rattle.ts_running.proofs.FrontLemmas.{expr_laws, operator_sign, other_sign}
 use Rattle.ts_running.proofs.GrammarLemmas.{name_yields, digits_yields, factor_shrinks, term_shrinks}
 

@@ -5,12 +5,12 @@ use Rattle.std.proofs.lemmas.Bool.Decides.{nat_tests}
 use Rattle.std.specs.List.{prefix_len, list_all}
 use Rattle.std.specs.Char.{is_ascii_digit}
 use Rattle.ts_base.specs.Name.{is_blank, begins_word, continues_word, is_word}
-use Rattle.ts_base.specs.StampText.{all_digits}
-use Rattle.ts_text.specs.Plain.{is_sign, plain_front}
+use Rattle.ts_base.specs.Moment.{all_digits}
+use Rattle.ts_text.specs.Phrase.{is_sign, plain_front}
 use Rattle.ts_text.specs.declared.token.TokenKind.{TokenKind}
 use Rattle.ts_text.specs.declared.token.TokenKind.TheVariants.{Word, Number, Sign}
 use Rattle.ts_text.proofs.CallerLemmas.{IsFront, IsSign, plain_laws, plain_sign, run_keeps, token_is, word_stands, digits_stand}
-use Rattle.ts_running.specs.Front.{is_operator, expr_front}
+use Rattle.ts_running.specs.Grammar.{is_operator, expr_front}
 
 -- an operator is a token by itself
 pub operator_front : (b : ℕ) (bytes : List ℕ) → is_operator b ≡ true → expr_front (b ∷ bytes) ≡ Some (Sign, 1)

@@ -3,19 +3,15 @@ use Rattle.std.proofs.Common.{◌≡◌, ℕ, zero, suc, ◌-◌, ◌≤◌, Lis
 use Rattle.std.proofs.lemmas.List.{append-nil}
 use Rattle.std.proofs.lemmas.Grind.{flat_map-append}
 use Rattle.ts_text.specs.Misfit.{Refuses, RefusesExactly}
-use Rattle.ts_text.specs.Phrase.{Read, Phrase, go_on, ◌>>=◌, give, a_sign, made, phrases, onto, the_end, ended, name_as}
-use Rattle.ts_text.specs.Signs.{if_sign, Signs, onward, joined_by, sign_in}
+use Rattle.ts_text.specs.Phrase.{Read, Phrase, go_on, ◌>>=◌, give, a_sign, made, phrases, onto, the_end, ended, name_as, if_sign, Signs, onward, joined_by, sign_in, plain_front}
 use Rattle.ts_text.specs.declared.misfit.Misfit.{Misfit}
 use Rattle.ts_text.specs.declared.misfit.Misfit.TheVariants.{At, Memory}
 use Rattle.ts_text.proofs.CallerLemmas.{Yields, Any, Shrinks, of_token, shrinks_of, sign_shrinks, sign_there, sign_absent, made_shrinks, if_sign_shrinks, joined_shrinks, onward_none, onward_some, pair-parts, bind-ok, exactly_refused}
-use Rattle.ts_text.specs.Plain.{plain_front}
 use Rattle.ts_text.specs.declared.token.TokenKind.TheVariants.{Word, Number}
 use Rattle.ts_expr.proofs.ListLemmas.{few_more, few_end, few_full}
 use Rattle.ts_running.specs.declared.step.Operation.{Operation}
 use Rattle.ts_running.specs.declared.step.Step.TheVariants as step
-use Rattle.ts_running.specs.Expr.{Column, Digits, Opposite, Joined, steps_of, all_steps}
-use Rattle.ts_running.specs.Front.{expr_front}
-use Rattle.ts_running.specs.Grammar.{most_exprs, Named, joined, name_in, digits_as, digits_in, leaf_in, times_signs, sum_signs, term_of, sum_of, in_bracket, factor_in, expr_in, further, list_in}
+use Rattle.ts_running.specs.Grammar.{Column, Digits, Opposite, Joined, steps_of, all_steps, expr_front, most_exprs, Named, joined, name_in, digits_as, digits_in, leaf_in, times_signs, sum_signs, term_of, sum_of, in_bracket, factor_in, expr_in, further, list_in}
 use Rattle.ts_running.specs.Reading.{NamedSteps, Reads, ReadsAll}
 use Rattle.ts_running.proofs.FrontLemmas.{expr_laws}
 use Rattle.ts_running.proofs.OnwardLemmas.{Onward}

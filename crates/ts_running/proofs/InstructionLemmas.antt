@@ -15,11 +15,9 @@ use Rattle.ts_running.specs.declared.bind.Source.{Source}
 use Rattle.ts_running.specs.declared.instruction.Instruction.{Instruction}
 use Rattle.ts_running.specs.declared.fault.ApplyError.{ApplyError}
 use Rattle.ts_running.specs.declared.fault.ApplyError.TheVariants.{Overflow, Memory}
-use Rattle.ts_running.specs.Expr.{all_steps}
-use Rattle.ts_running.specs.Parts.{Parts, made_of_all, onto_stack, after_step, after_steps, exprs_of}
+use Rattle.ts_running.specs.Grammar.{all_steps}
+use Rattle.ts_running.specs.Binding.{Parts, made_of_all, onto_stack, after_step, after_steps, exprs_of, Sourced, scale_if_small, part_scales, Operand, at_scale, numbers, numbers_of, over_numbers, value_if_any, numbers_row, applied, ApplyFails, Leaves}
 use Rattle.ts_running.specs.StepLaws.{all_make}
-use Rattle.ts_running.specs.Binding.{Sourced, scale_if_small, part_scales}
-use Rattle.ts_running.specs.Operands.{Operand, at_scale, numbers, numbers_of, over_numbers, value_if_any, numbers_row, applied, ApplyFails, Leaves}
 use Rattle.ts_running.specs.Instructions.{of_scales, of_last_scales, instruction_of, instructions_of, step_of, exprs_in, IsKept, after_instruction, after_instructions}
 use Rattle.ts_running.proofs.StepLemmas.{steps_leave}
 use Rattle.ts_running.proofs.ApplyLemmas.{numbers_are}

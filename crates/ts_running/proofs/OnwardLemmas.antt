@@ -1,10 +1,8 @@
 -- Expressions that go on behind signs.
 use Rattle.std.proofs.Common.{◌≡◌, List, ℕ, ◌++◌}
-use Rattle.ts_text.specs.Phrase.{Phrase}
-use Rattle.ts_text.specs.Signs.{Signs, onward}
+use Rattle.ts_text.specs.Phrase.{Phrase, Signs, onward}
 use Rattle.ts_running.specs.declared.step.Operation.{Operation}
-use Rattle.ts_running.specs.Expr.{steps_of}
-use Rattle.ts_running.specs.Grammar.{Named, joined}
+use Rattle.ts_running.specs.Grammar.{steps_of, Named, joined}
 use Rattle.ts_running.specs.Reading.{NamedSteps}
 
 -- a reader that goes on: an expression so far, and its steps

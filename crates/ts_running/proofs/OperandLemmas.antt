@@ -7,7 +7,7 @@ use Rattle.std.proofs.lemmas.Int.{ints, fits_signed_from_abs, unsigned_abs-mul}
 use Rattle.std.specs.Int.{w64, w128}
 use Rattle.std.specs.Option.{option_and_then, SomeIff}
 use Rattle.std.specs.Prelude.{FitsSigned, unsigned_abs}
-use Rattle.ts_running.specs.Operands.{checked}
+use Rattle.ts_running.specs.Binding.{checked}
 
 -- the powers of ten that an operand is brought by
 pub ten_small : (k : ℕ) → k ≤ 28 → 10 ^ k < 2 ^ 127

@@ -6,15 +6,13 @@ use Rattle.std.proofs.lemmas.Bool.Decides.{nat_tests}
 use Rattle.std.proofs.lemmas.List.{length-map, take-map, drop-map}
 use Rattle.ts_row.specs.declared.value.Value.{Value}
 use Rattle.ts_row.specs.declared.value.Value.TheVariants.{Null, Number, Text}
-use Rattle.ts_row.specs.Row.{Row}
-use Rattle.ts_row.specs.Element.{Element}
+use Rattle.ts_row.specs.Row.{Row, Element}
 use Rattle.ts_expr.specs.declared.function.Function.{Function}
 use Rattle.ts_expr.specs.declared.function.Function.TheVariants.{Sum, Avg, Count, Min, Max, First, Last}
-use Rattle.ts_expr.specs.Fold.{is_null, value_at, values_of, number_of, total, rounded, mean, number_if_any, made}
-use Rattle.ts_running.specs.Window.{Window, window, after_push, window_at, present, count_of, total_of}
-use Rattle.ts_running.specs.Operands.{value_if_any}
+use Rattle.ts_expr.specs.Aggregates.{is_null, value_at, values_of, number_of, total, rounded, mean, number_if_any, made}
+use Rattle.ts_running.specs.Rows.{Window, window, after_push, window_at, present, count_of, total_of, value_over}
+use Rattle.ts_running.specs.Binding.{value_if_any}
 use Rattle.ts_running.specs.Places.{place_if_any, place_of, places, is_running, made_over}
-use Rattle.ts_running.specs.Rows.{value_over}
 use Rattle.ts_running.proofs.WindowLaws.{last_window}
 
 -- the rows of elements

@@ -4,9 +4,8 @@ use Rattle.std.proofs.lemmas.Bool.{cases_Bool}
 use Rattle.std.proofs.lemmas.Bool.Decides.{nat_tests}
 use Rattle.std.proofs.lemmas.List.Elements.{All-nil, All-cons}
 use Rattle.std.specs.Option.{option_and_then}
-use Rattle.ts_running.specs.Expr.{Column, Digits, Opposite, Joined}
-use Rattle.ts_running.specs.Parts.{of_two, made_of, with_others, made_of_all}
-use Rattle.ts_running.specs.Binding.{Sourced, scale_if_small, joined_scale, part_scales}
+use Rattle.ts_running.specs.Grammar.{Column, Digits, Opposite, Joined}
+use Rattle.ts_running.specs.Binding.{of_two, made_of, with_others, made_of_all, Sourced, scale_if_small, joined_scale, part_scales}
 
 small_is : (n s : ℕ) → scale_if_small n ≡ Some s → s ≤ 28
 small_is n s is = elim (cases_Bool (nat_le n 28)) [

@@ -9,12 +9,11 @@ use Rattle.ts_base.specs.declared.refusal.Refusal.{Refusal}
 use Rattle.ts_row.specs.declared.kind.ColumnKind.{ColumnKind}
 use Rattle.ts_row.specs.declared.kind.ColumnKind.TheVariants.{SmallInt, Integer, BigInt, Decimal, VarChar}
 use Rattle.ts_row.specs.declared.kind.Column.{Column}
-use Rattle.ts_row.specs.RowType.{is_kind, scale_of, width_of, names_of, are_distinct, keep_rules, is_row_type}
+use Rattle.ts_row.specs.Row.{is_kind, scale_of, width_of, names_of, are_distinct, keep_rules, is_row_type}
 use Rattle.ts_expr.specs.declared.function.Function.{Function}
 use Rattle.ts_expr.specs.declared.function.Function.TheVariants.{Sum, Avg, Count, Min, Max, First, Last}
 use Rattle.ts_expr.specs.declared.item.BoundItem.{BoundItem}
-use Rattle.ts_expr.specs.Grammar.{item}
-use Rattle.ts_expr.specs.Binding.{column_from, bound, bound_to, made_scale}
+use Rattle.ts_expr.specs.Aggregates.{item, column_from, bound, bound_to, made_scale}
 use Rattle.ts_running.specs.declared.bind.Source.{Source}
 use Rattle.ts_running.specs.Binding.{with_one, source_of, source_named}
 use Rattle.ts_running.specs.Places.{is_running}

@@ -6,10 +6,9 @@ use Rattle.std.specs.Option.{option_map}
 use mathlib.Core.List.{reverse_aux}
 use Rattle.ts_text.specs.Phrase.{Read, ended, outcome}
 use Rattle.ts_running.specs.declared.step.Step.{Step}
-use Rattle.ts_running.specs.Expr.{Expr, all_steps}
-use Rattle.ts_running.specs.Parts.{Parts, made_of_all, after_steps, exprs_of}
+use Rattle.ts_running.specs.Grammar.{Expr, all_steps, Named, list_in, exprs_or_place, read_exprs}
+use Rattle.ts_running.specs.Binding.{Parts, made_of_all, after_steps, exprs_of}
 use Rattle.ts_running.specs.StepLaws.{all_make, exprs_again}
-use Rattle.ts_running.specs.Grammar.{Named, list_in, exprs_or_place, read_exprs}
 use Rattle.ts_running.specs.Reading.{NamedSteps, ReadsAll}
 use Rattle.std.specs.Prelude.{length}
 

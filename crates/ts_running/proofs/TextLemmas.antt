@@ -6,11 +6,9 @@ use Rattle.std.proofs.lemmas.List.{append-nil}
 use Rattle.std.specs.List.{prefix_len, list_all}
 use Rattle.std.specs.Char.{is_ascii_digit}
 use Rattle.ts_base.specs.Name.{begins_word, continues_word, is_blank, is_word, is_name, name_if_any}
-use Rattle.ts_base.specs.StampText.{all_digits, number_of}
-use Rattle.ts_text.specs.Blanks.{unblanked}
-use Rattle.ts_text.specs.Digits.{magnitude_of}
+use Rattle.ts_base.specs.Moment.{all_digits, number_of}
+use Rattle.ts_text.specs.Phrase.{unblanked, magnitude_of, Read, Phrase, go_on, ◌>>=◌, give, a_sign, made, phrases, the_end, ended, outcome, token, name_as, is_sign, plain_front, if_sign, Signs, onward_most, onward, joined_by, sign_or, sign_in}
 use Rattle.ts_text.specs.Parted.{IsParted}
-use Rattle.ts_text.specs.Phrase.{Read, Phrase, go_on, ◌>>=◌, give, a_sign, made, phrases, the_end, ended, outcome, token, name_as}
 use Rattle.ts_text.specs.declared.token.TokenKind.{TokenKind}
 use Rattle.ts_text.specs.declared.token.TokenKind.TheVariants.{Word, Number, Text, Sign}
 use Rattle.ts_text.proofs.CallerLemmas.{bind-ok, digits_kept, digits-end, end-found, end-read, ends-token, pair-parts, parted-token, sign-found, sign-read, sign_is, stops-word, token-first, token-found, token-read, token_is}
@@ -18,11 +16,7 @@ use Rattle.ts_expr.proofs.EndLemmas.{end_is}
 use Rattle.ts_text.proofs.CallerLemmas.{by_sign_some, by_sign_none, one_more, onward_none, onward_some, sign_absent, sign_end, sign_other, sign_there, StopsWord}
 use Rattle.ts_running.specs.declared.step.Operation.{Operation}
 use Rattle.ts_running.specs.declared.step.Operation.TheVariants.{Plus, Less, Times}
-use Rattle.ts_running.specs.Expr.{Column, Digits, Opposite, Joined}
-use Rattle.ts_text.specs.Plain.{is_sign, plain_front}
-use Rattle.ts_running.specs.Front.{is_operator, expr_front}
-use Rattle.ts_text.specs.Signs.{if_sign, Signs, onward_most, onward, joined_by, sign_or, sign_in}
-use Rattle.ts_running.specs.Grammar.{Named, joined, name_in, digits_as, digits_in, leaf_in, times_signs, sum_signs, term_of, sum_of, in_bracket, factor_in, expr_in, further, list_in, written_exprs}
+use Rattle.ts_running.specs.Grammar.{Column, Digits, Opposite, Joined, is_operator, expr_front, Named, joined, name_in, digits_as, digits_in, leaf_in, times_signs, sum_signs, term_of, sum_of, in_bracket, factor_in, expr_in, further, list_in, written_exprs}
 use Rattle.ts_running.specs.Spelling.{Level, Factor, Term, Sum, Tokens, IsWritten, column, digits, minus, brackets, factor, product, term, sum, difference, AreBehindCommas, AreWritten, IsListText}
 use Rattle.ts_running.proofs.FrontLemmas.{expr_laws, operator_front, plain_is, word_front, digits_front}
 use Rattle.ts_running.proofs.GrammarLemmas.{factor_shrinks, term_shrinks}

@@ -8,7 +8,7 @@ use Rattle.std.specs.List.{fold, slice_get}
 use Rattle.std.specs.Option.{unwrap_or}
 use Rattle.std.specs.Prelude.{ℤ, pos, negsuc, ◌+ℤ◌, ◌-ℤ◌, ◌≤ℤ◌, FitsSigned, unsigned_abs, if◌then◌else◌}
 use Rattle.circular_buffer.specs.Buffer.{keep_last}
-use Rattle.ts_running.specs.Window.{window, IsSmall, IsWindow, present, count_of, total_of, number_of, tally_of}
+use Rattle.ts_running.specs.Rows.{window, IsSmall, IsWindow, present, count_of, total_of, number_of, tally_of}
 
 abbrev Places : Type 0
 Places = List (Option ℤ)

@@ -6,8 +6,8 @@ use Rattle.ts_running.specs.declared.step.Operation.{Operation}
 use Rattle.ts_running.specs.declared.step.Operation.TheVariants.{Plus, Less, Times}
 use Rattle.ts_running.specs.declared.step.Step.{Step}
 use Rattle.ts_running.specs.declared.step.Step.TheVariants as step
-use Rattle.ts_running.specs.Expr.{Expr, all_steps}
-use Rattle.ts_running.specs.Parts.{exprs_of}
+use Rattle.ts_running.specs.Grammar.{Expr, all_steps}
+use Rattle.ts_running.specs.Binding.{exprs_of}
 use Rattle.ts_running.specs.StepLaws.{exprs_again}
 
 -- an operation as a number, and back

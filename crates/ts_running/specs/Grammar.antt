@@ -1,17 +1,50 @@
--- The text of expressions, as in `$v*($w+1), -$v`: its grammar, and what it reads as.
-use Rattle.std.specs.Prelude.{ℕ, zero, suc, ◌-◌, nat_le, if◌then◌else◌, List, [], ◌∷◌, length, Option, Some, None}
-use Rattle.std.specs.Prelude.{Result, Ok, Err}
+-- The text of expressions over columns, and the text that names a column.
+use Rattle.std.specs.Prelude.{ℕ, zero, suc, ◌-◌, nat_le, ◌==◌, ◌||◌, Bool, if◌then◌else◌, List, [], ◌∷◌, length, Option}
+use Rattle.std.specs.Prelude.{Some, None, ◌++◌, Result, Ok, Err}
+use Rattle.std.specs.List.{flat_map}
 use Rattle.ts_base.specs.declared.refusal.Refusal.{Refusal}
 use Rattle.ts_base.specs.declared.refusal.Refusal.TheVariants.{BadExpression}
-use Rattle.ts_text.specs.Digits.{magnitude_of}
-use Rattle.ts_text.specs.Phrase.{Phrase, ◌>>=◌, give, token, a_sign, made, phrases, ended, outcome, name_as}
-use Rattle.ts_text.specs.Signs.{Signs, if_sign, joined_by}
+use Rattle.ts_text.specs.Phrase.{magnitude_of, Phrase, behind, ◌>>=◌, give, token, a_sign, made, phrases, ended}
+use Rattle.ts_text.specs.Phrase.{outcome, name_as, Signs, if_sign, joined_by, plain_front}
 use Rattle.ts_text.specs.declared.token.TokenKind.{TokenKind}
-use Rattle.ts_text.specs.declared.token.TokenKind.TheVariants.{Number}
+use Rattle.ts_text.specs.declared.token.TokenKind.TheVariants.{Sign, Number}
 use Rattle.ts_running.specs.declared.step.Operation.{Operation}
 use Rattle.ts_running.specs.declared.step.Operation.TheVariants.{Plus, Less, Times}
-use Rattle.ts_running.specs.Expr.{Expr, Column, Digits, Opposite, Joined}
-use Rattle.ts_running.specs.Front.{expr_front}
+use Rattle.ts_running.specs.declared.step.Step.{Step}
+use Rattle.ts_running.specs.declared.step.Step.TheVariants as step
+
+-- Expressions over columns, and the steps that one is kept as.
+
+-- an expression over columns, each of them given by this
+pub data Expr (C : Type 0) : Type 0 where
+  Column : C → Expr C
+  Digits : ℕ → Expr C
+  Opposite : Expr C → Expr C
+  Joined : Operation → Expr C → Expr C → Expr C
+
+-- its steps: those of its parts from left to right, and then what is made of them
+abbrev pub steps_of : {C : Type 0} → Expr C → List (Step C)
+steps_of (Column c) = step.Column c ∷ []
+steps_of (Digits n) = step.Digits n ∷ []
+steps_of (Opposite e) = steps_of e ++ step.Opposite ∷ []
+steps_of (Joined operation a b) = steps_of a ++ (steps_of b ++ step.Joined operation ∷ [])
+
+-- the steps of expressions, one after the other
+abbrev pub all_steps : {C : Type 0} → List (Expr C) → List (Step C)
+all_steps exprs = flat_map steps_of exprs
+
+-- The tokens of expressions: words, digits and signs, each the longest that stands there.
+
+-- one of `+` `-` `*`
+abbrev pub is_operator : ℕ → Bool
+is_operator b = b == 43 || b == 45 || b == 42
+
+-- the token that stands in front, if one does: those of aggregate lists, and the signs of operations
+unfoldable pub expr_front : List ℕ → Option (TokenKind × ℕ)
+expr_front [] = None
+expr_front (b ∷ bytes) = if is_operator b then Some (Sign, 1) else plain_front (b ∷ bytes)
+
+-- The text of expressions, as in `$v*($w+1), -$v`: its grammar, and what it reads as.
 
 -- the most digits of a number
 abbrev pub most_digits : ℕ
@@ -105,3 +138,22 @@ exprs_or_place (Err place) = Err (BadExpression place)
 -- the list that a text reads as, or why there is none
 abbrev pub read_exprs : List ℕ → Result (List Named) Refusal
 read_exprs text = exprs_or_place (written_exprs text)
+
+-- The text that names the column of a running value, as in `$v`.
+
+-- a `$` and the name of a column
+unfoldable pub column_in : Phrase (List ℕ)
+column_in = behind 36 name_in
+
+-- the name that a text is, or the place of what can't stand there
+abbrev pub written_column : List ℕ → Result (List ℕ) ℕ
+written_column text = outcome (length text) (ended [] column_in text)
+
+-- what a text reads as
+abbrev pub column_or_place : Result (List ℕ) ℕ → Result (List ℕ) Refusal
+column_or_place (Ok name) = Ok name
+column_or_place (Err place) = Err (BadExpression place)
+
+-- the name that a text reads as, or why there is none
+abbrev pub read_column : List ℕ → Result (List ℕ) Refusal
+read_column text = column_or_place (written_column text)

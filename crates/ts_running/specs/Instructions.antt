@@ -10,10 +10,9 @@ use Rattle.ts_running.specs.declared.bind.Source.{Source}
 use Rattle.ts_running.specs.declared.instruction.Powers.{Powers}
 use Rattle.ts_running.specs.declared.instruction.Instruction.{Instruction}
 use Rattle.ts_running.specs.declared.instruction.Instruction.TheVariants as instruction
-use Rattle.ts_running.specs.Expr.{all_steps}
-use Rattle.ts_running.specs.Parts.{of_two, over_one, over_two, after_step, exprs_of}
-use Rattle.ts_running.specs.Binding.{Sourced, part_scales}
-use Rattle.ts_running.specs.Operands.{checked, of_number, of_numbers}
+use Rattle.ts_running.specs.Grammar.{all_steps}
+use Rattle.ts_running.specs.Binding.{of_two, over_one, over_two, after_step, exprs_of, Sourced, part_scales, checked}
+use Rattle.ts_running.specs.Binding.{of_number, of_numbers}
 
 -- what brings two operands of these scales to the greater one
 abbrev pub powers : ℕ → ℕ → Powers

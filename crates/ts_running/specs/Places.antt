@@ -2,13 +2,12 @@
 use Rattle.std.specs.Prelude.{ℕ, Bool, true, false, if◌then◌else◌, ℤ, Option, Some, None, List, map}
 use Rattle.ts_row.specs.declared.value.Value.{Value}
 use Rattle.ts_row.specs.declared.value.Value.TheVariants.{Null}
-use Rattle.ts_row.specs.Row.{Row}
-use Rattle.ts_row.specs.Element.{Element}
+use Rattle.ts_row.specs.Row.{Row, Element}
 use Rattle.ts_expr.specs.declared.function.Function.{Function}
 use Rattle.ts_expr.specs.declared.function.Function.TheVariants.{Sum, Avg}
-use Rattle.ts_expr.specs.Fold.{is_null, value_at, number_of}
-use Rattle.ts_running.specs.Window.{sum_of, mean_of}
-use Rattle.ts_running.specs.Operands.{value_if_any}
+use Rattle.ts_expr.specs.Aggregates.{is_null, value_at, number_of}
+use Rattle.ts_running.specs.Rows.{sum_of, mean_of}
+use Rattle.ts_running.specs.Binding.{value_if_any}
 
 -- the place of a value: NULL has none
 abbrev pub place_if_any : Value → Option ℤ

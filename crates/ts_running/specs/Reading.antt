@@ -2,8 +2,7 @@
 use Rattle.std.specs.Prelude.{◌≡◌, ℕ, List, ◌++◌, Ok}
 use Rattle.ts_text.specs.Phrase.{Phrase}
 use Rattle.ts_running.specs.declared.step.Step.{Step}
-use Rattle.ts_running.specs.Expr.{steps_of, all_steps}
-use Rattle.ts_running.specs.Grammar.{Named}
+use Rattle.ts_running.specs.Grammar.{steps_of, all_steps, Named}
 
 -- steps over columns that are given by their names
 abbrev pub NamedSteps : Type 0

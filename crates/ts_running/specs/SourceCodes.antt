@@ -3,7 +3,7 @@ use Rattle.std.specs.Prelude.{ℕ, List, [], ◌∷◌}
 use Rattle.std.specs.Coded.{Coded}
 use Rattle.std.proofs.Common.{refl}
 use Rattle.ts_running.specs.declared.bind.Source.{Source}
-use Rattle.ts_running.specs.Expr.{Expr}
+use Rattle.ts_running.specs.Grammar.{Expr}
 use Rattle.ts_running.specs.Codes.{exprs_code}
 use Rattle.ts_running.specs.Binding.{source}
 

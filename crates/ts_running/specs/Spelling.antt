@@ -1,11 +1,10 @@
 -- Which tokens are those of expressions.
 use Rattle.std.specs.Prelude.{◌≡◌, ℕ, suc, ◌-◌, ◌≤◌, List, [], ◌∷◌, ◌++◌, length, true}
 use Rattle.ts_base.specs.Name.{is_name}
-use Rattle.ts_base.specs.StampText.{all_digits, number_of}
+use Rattle.ts_base.specs.Moment.{all_digits, number_of}
 use Rattle.ts_text.specs.Parted.{IsParted}
 use Rattle.ts_running.specs.declared.step.Operation.TheVariants.{Plus, Less, Times}
-use Rattle.ts_running.specs.Expr.{Column, Digits, Opposite, Joined}
-use Rattle.ts_running.specs.Grammar.{most_digits, most_factors, most_exprs, Named}
+use Rattle.ts_running.specs.Grammar.{Column, Digits, Opposite, Joined, most_digits, most_factors, most_exprs, Named}
 
 -- what an expression is written as: a factor, factors joined by `*`, or terms joined by `+` and `-`
 pub data Level : Type 0 where

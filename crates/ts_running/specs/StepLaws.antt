@@ -6,9 +6,9 @@ use Rattle.std.specs.Option.{option_map, option_and_then}
 use mathlib.Core.List.{reverse_aux}
 use Rattle.ts_running.specs.declared.step.Step.{Step}
 use Rattle.ts_running.specs.declared.step.Step.TheVariants as step
-use Rattle.ts_running.specs.Expr.{Expr, Column, Digits, Opposite, Joined, steps_of, all_steps}
-use Rattle.ts_running.specs.Parts.{Parts, of_two, made_of, with_others, made_of_all, onto_stack, after_steps, building}
-use Rattle.ts_running.specs.Parts.{exprs_of}
+use Rattle.ts_running.specs.Grammar.{Expr, Column, Digits, Opposite, Joined, steps_of, all_steps}
+use Rattle.ts_running.specs.Binding.{Parts, of_two, made_of, with_others, made_of_all, onto_stack, after_steps}
+use Rattle.ts_running.specs.Binding.{building, exprs_of}
 
 -- steps over a stack with one more, if there is one
 abbrev pub over_more : {C A : Type 0} → Parts C A → List (Step C) → List A → Option A → Option (List A)

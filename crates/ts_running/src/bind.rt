@@ -1,10 +1,9 @@
 // Expressions with the columns that they take their values from.
 ghost use Rattle.std.specs.Prelude.{◌≡◌, ◌≤◌, All, ◌≤◌, Ok, Some, IfOk, IfErr, IsTrue};
 ghost use Rattle.std.specs.List.{list_all};
-ghost use Rattle.ts_row.specs.RowType.{is_kind};
+ghost use Rattle.ts_row.specs.Row.{is_kind};
 ghost use Rattle.ts_base.specs.Answer.{Answers, Fails};
-ghost use Rattle.ts_running.specs.Parts.{made_of_all};
-ghost use Rattle.ts_running.specs.Binding.{most_part_scale, binding, part_scales};
+ghost use Rattle.ts_running.specs.Binding.{made_of_all, most_part_scale, binding, part_scales};
 ghost use Rattle.ts_running.specs.Binding;
 ghost use Rattle.ts_running.specs.Instructions.{IsKept};
 
@@ -36,8 +35,7 @@ pub struct BoundExpr {
 
 impl Model for BoundExpr {
     ghost use Rattle.std.specs.Prelude.{◌≡◌, List, Some};
-    ghost use Rattle.ts_running.specs.Parts.{made_of_all};
-    ghost use Rattle.ts_running.specs.Binding.{Sourced, part_scales};
+    ghost use Rattle.ts_running.specs.Binding.{made_of_all, Sourced, part_scales};
     ghost use Rattle.ts_running.specs.SourceCodes.{sourced_code};
     ghost use Rattle.ts_running.specs.Instructions.{exprs_in, IsKept};
 

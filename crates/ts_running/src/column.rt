@@ -3,9 +3,8 @@ ghost use Rattle.std.specs.Prelude.{◌≡◌, ◌<◌, ◌≤◌, ◌^◌, Ok, 
 ghost use Rattle.ts_base.specs.Answer.{Answers};
 ghost use Rattle.ts_text.specs.Misfit.{Refuses};
 ghost use Rattle.ts_text.specs.Phrase.{ended};
-ghost use Rattle.ts_expr.specs.Grammar.{item};
-ghost use Rattle.ts_expr.specs.Binding.{bound, most_scale};
-ghost use Rattle.ts_running.specs.ColumnText.{column_in, read_column};
+ghost use Rattle.ts_expr.specs.Aggregates.{item, bound, most_scale};
+ghost use Rattle.ts_running.specs.Grammar.{column_in, read_column};
 ghost use Rattle.ts_running.specs.Places.{is_running};
 
 use crate::bind::{Source, source_named};
@@ -32,7 +31,7 @@ pub fn read_column(alloc: Global, text: &[u8]) -> Result<Name, Trouble>
 }
 
 // The name that a text is.
-#[tactic(auto, unfolding(crate::specs::ColumnText::column_in))]
+#[tactic(auto, unfolding(crate::specs::Grammar::column_in))]
 fn written_column(alloc: Global, text: &[u8]) -> Result<Name, Misfit>
     ensures ok { IfOk result (λ name. ended [] column_in text.now ≡ Ok (name, [])) }
     ensures cause { IfErr result (λ misfit. Refuses misfit (ended [] column_in text.now)) }

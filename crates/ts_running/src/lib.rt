@@ -1,13 +1,12 @@
 //! Windows of running values, and expressions over the columns of a row, as in `$v*($w+1), -$v`. The sum and the number
-//! of a window are those of its values from nothing (`specs/Window`). What a text reads as, or the place at which it is
+//! of a window are those of its values from nothing (`specs/Rows`). What a text reads as, or the place at which it is
 //! refused, is `specs/Grammar`; it is read exactly where it is the tokens of expressions with blanks between them
 //! (`specs/Spelling`). Bound to a row type each column has its number and its scale (`specs/Binding`), and the values
-//! are those of `specs/Operands`, part by part (`specs/Parts`). The code keeps an expression as steps over a stack, and
-//! one over columns as instructions over a stack of numbers alone (`specs/Instructions`). The rows that both give for
-//! the elements of a series are `specs/Rows`; whoever takes them is a `NumbersVisitor`.
-//! Stands on circular_buffer, ts_expr, ts_text, ts_row and ts_base; knows nothing of pages or scripts. Read
-//! `specs/Grammar.antt`, `specs/Binding.antt`, `specs/Operands.antt`, `specs/Instructions.antt`, then `running.rt`,
-//! `list.rt`, `bind.rt`, `value.rt`.
+//! are made part by part there too. The code keeps an expression as steps over a stack, and one over columns as
+//! instructions over a stack of numbers alone (`specs/Instructions`). The rows that both give for the elements of a
+//! series are `specs/Rows`; whoever takes them is a `NumbersVisitor`. Stands on circular_buffer, ts_expr, ts_text,
+//! ts_row and ts_base; knows nothing of pages or scripts. Read `specs/Grammar.antt`, `specs/Binding.antt`,
+//! `specs/Instructions.antt`, then `running.rt`, `list.rt`, `bind.rt`, `value.rt`.
 #![tactic(auto)]
 
 mod bind;

@@ -2,9 +2,7 @@
 ghost use Rattle.std.specs.Prelude.{◌≡◌, ◌<◌, ◌^◌, ◌↔◌, ℕ, List, Ok, length};
 ghost use Rattle.ts_text.specs.Place.{everywhere, RefusesInPlace};
 ghost use Rattle.ts_base.specs.Answer.{Answers};
-ghost use Rattle.ts_running.specs.Expr.{all_steps};
-ghost use Rattle.ts_running.specs.Front.{expr_front};
-ghost use Rattle.ts_running.specs.Grammar.{Named, read_exprs, written_exprs};
+ghost use Rattle.ts_running.specs.Grammar.{all_steps, expr_front, Named, read_exprs, written_exprs};
 ghost use Rattle.ts_running.specs.Spelling.{IsListText};
 
 use crate::read::written_steps;
@@ -25,10 +23,9 @@ pub struct ExprList {
 
 impl Model for ExprList {
     ghost use Rattle.std.specs.Prelude.{◌≡◌, List};
-    ghost use Rattle.ts_running.specs.Expr.{all_steps};
-    ghost use Rattle.ts_running.specs.Parts.{exprs_of};
+    ghost use Rattle.ts_running.specs.Grammar.{all_steps, Named};
+    ghost use Rattle.ts_running.specs.Binding.{exprs_of};
     ghost use Rattle.ts_running.specs.Codes.{named_code};
-    ghost use Rattle.ts_running.specs.Grammar.{Named};
 
     ghost Value = { List Named };
 

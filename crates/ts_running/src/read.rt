@@ -1,9 +1,7 @@
 // Reading the text of expressions.
 ghost use Rattle.std.specs.Prelude.{◌≡◌, ◌-◌, ◌<◌, ◌≤◌, ◌^◌, Ok, Some, None, IfOk, IfErr, IfSome, IfNone, [], length};
-ghost use Rattle.ts_text.specs.Digits.{magnitude_of};
+ghost use Rattle.ts_text.specs.Phrase.{magnitude_of, ended, sign_in};
 ghost use Rattle.ts_text.specs.Misfit.{Refuses, RefusesExactly};
-ghost use Rattle.ts_text.specs.Phrase.{ended};
-ghost use Rattle.ts_text.specs.Signs.{sign_in};
 ghost use Rattle.ts_running.specs.Grammar;
 ghost use Rattle.ts_running.specs.Reading.{Reads, ReadsAll};
 

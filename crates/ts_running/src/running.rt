@@ -1,7 +1,7 @@
 // A running sum.
 ghost use Rattle.std.specs.Prelude.{◌≡◌, [], ◌<◌, ◌≤◌, ◌*◌, ◌^◌, unsigned_abs, IfOk, IfSome};
-ghost use Rattle.ts_running.specs.Window.{window, after_push, sum_of, count_of, mean_of, number_of, tally_of, IsSmall};
-ghost use Rattle.ts_running.specs.Window.{IsWindow};
+ghost use Rattle.ts_running.specs.Rows.{window, after_push, sum_of, count_of, mean_of, number_of, tally_of, IsSmall};
+ghost use Rattle.ts_running.specs.Rows.{IsWindow};
 
 use circular_buffer::HeapCircularBuffer;
 use std::alloc::{AllocError, Global};
@@ -18,7 +18,7 @@ pub struct Running {
 
 impl Model for Running {
     ghost use Rattle.std.specs.Prelude.{◌≡◌, length};
-    ghost use Rattle.ts_running.specs.Window.{Window, window, total_of, count_of, IsWindow};
+    ghost use Rattle.ts_running.specs.Rows.{Window, window, total_of, count_of, IsWindow};
 
     ghost Value = { Window };
 

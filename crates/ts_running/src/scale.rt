@@ -1,8 +1,8 @@
 // The digits after the point of expressions, and the instructions that know them.
 ghost use Rattle.std.specs.Prelude.{◌≡◌, ◌≤◌, ◌^◌, max, pos, IfOk, IfSome, [], reverse};
 ghost use Rattle.std.specs.Option.{option_map};
-ghost use Rattle.ts_running.specs.Parts.{onto_stack, over_two, after_step, after_steps};
-ghost use Rattle.ts_running.specs.Binding.{most_part_scale, scale_if_small, part_scales};
+ghost use Rattle.ts_running.specs.Binding.{onto_stack, over_two, after_step, after_steps, most_part_scale};
+ghost use Rattle.ts_running.specs.Binding.{scale_if_small, part_scales};
 ghost use Rattle.ts_running.specs.Binding;
 ghost use Rattle.ts_running.specs.Instructions.{instruction_of, instructions_of};
 ghost use Rattle.ts_running.specs.Instructions;

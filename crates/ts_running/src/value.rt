@@ -3,9 +3,9 @@ ghost use Rattle.std.specs.Prelude.{◌≡◌, ◌+ℤ◌, ◌-ℤ◌, ◌*ℤ�
 ghost use Rattle.std.specs.Prelude.{reverse, slice_index_or};
 ghost use Rattle.std.specs.Option.{option_and_then};
 ghost use Rattle.ts_row.specs.Row.{Values};
-ghost use Rattle.ts_running.specs.Parts.{onto_stack, over_one, over_two};
-ghost use Rattle.ts_running.specs.Operands.{checked, value_if_any, applied, Applies, Leaves, ApplyFails};
-ghost use Rattle.ts_running.specs.Operands;
+ghost use Rattle.ts_running.specs.Binding.{onto_stack, over_one, over_two, checked, value_if_any, applied, Applies};
+ghost use Rattle.ts_running.specs.Binding.{Leaves, ApplyFails};
+ghost use Rattle.ts_running.specs.Binding;
 ghost use Rattle.ts_running.specs.Instructions.{after_instruction, after_instructions, opposite_if_any, sum_if_any};
 ghost use Rattle.ts_running.specs.Instructions.{difference_if_any, product_if_any};
 ghost use Rattle.ts_running.specs.Instructions;
@@ -68,7 +68,7 @@ impl BoundExpr {
     /// The same of the numbers of a row, one for each column, with none for NULL and for a text: the values are made in
     /// room that is kept.
     pub fn apply_to(&self, numbers: &[Option<i128>], room: &mut ApplyRoom) -> Result<(), ApplyError>
-        ensures { (values : Values) → numbers.now ≡ Operands.numbers_of values
+        ensures { (values : Values) → numbers.now ≡ Binding.numbers_of values
             → Leaves (applied self.now values) room.new result }
     {
         let _scales = self.scales();
@@ -78,7 +78,7 @@ impl BoundExpr {
 
 // The numbers of values.
 fn numbers_of(alloc: Global, values: &[Value]) -> Result<Vec<Option<i128>>, AllocError>
-    ensures { IfOk result (λ numbers. numbers.items ≡ Operands.numbers_of values.now) }
+    ensures { IfOk result (λ numbers. numbers.items ≡ Binding.numbers_of values.now) }
 {
     let mut numbers = Vec::with_capacity(alloc, values.len())?;
     for value in values {
@@ -89,7 +89,7 @@ fn numbers_of(alloc: Global, values: &[Value]) -> Result<Vec<Option<i128>>, Allo
 
 // The number of a value: none of NULL and of a text.
 fn number_of(value: &Value) -> Option<i128>
-    ensures { result ≡ Operands.number_if_any value.now }
+    ensures { result ≡ Binding.number_if_any value.now }
 {
     match value {
         Value::Number(number) => Some(*number),

@@ -1,7 +1,7 @@
 // One that takes rows of numbers.
 ghost use Rattle.std.specs.Prelude.{◌≡◌, [], ◌∷◌, ◌++◌, OnOk, List};
-ghost use Rattle.ts_row.specs.Element.{Element};
-ghost use Rattle.ts_running.specs.Operands.{numbers_row};
+ghost use Rattle.ts_row.specs.Row.{Element};
+ghost use Rattle.ts_running.specs.Binding.{numbers_row};
 
 use std::alloc::AllocError;
 use ts_base::Stamp;

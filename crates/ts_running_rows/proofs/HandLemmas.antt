@@ -7,18 +7,16 @@ use Rattle.std.proofs.lemmas.List.{length-map}
 use Rattle.std.proofs.lemmas.List.FromFn.{length-enumerate_from}
 use Rattle.ts_base.specs.declared.refusal.Refusal.{Refusal}
 use Rattle.ts_base.specs.declared.refusal.Refusal.TheVariants.{TooLarge, Overflow}
-use Rattle.ts_row.specs.Element.{Element, seen}
-use Rattle.ts_sheets.specs.Range.{is_within, within_range}
+use Rattle.ts_row.specs.Row.{Element, seen}
+use Rattle.ts_sheets.specs.Stamped.{is_within, within_range}
 use Rattle.ts_entry.specs.Entry.{elements_of}
 use Rattle.ts_base.specs.Answer.{most_rows}
 use Rattle.ts_clip.specs.Call.{AreElementsTaken}
 use Rattle.ts_entry.specs.Handed.{AreHanded}
 use Rattle.ts_aggregate.proofs.ToldLemmas.{few_kept}
 use Rattle.ts_expr.specs.declared.item.BoundItem.{BoundItem}
-use Rattle.ts_running.specs.Window.{Window, window}
-use Rattle.ts_running.specs.Parts.{with_others}
-use Rattle.ts_running.specs.Binding.{Sourced}
-use Rattle.ts_running.specs.Rows.{running, applied_to, applied_all, or_overflow, applied_rows}
+use Rattle.ts_running.specs.Rows.{Window, window, running, applied_to, applied_all, or_overflow, applied_rows}
+use Rattle.ts_running.specs.Binding.{with_others, Sourced}
 use Rattle.ts_running_rows.specs.Call.{rows_by, rows_within}
 use Rattle.ts_running_rows.specs.Run.{Runner, Runs, Begins, run, runner}
 use Rattle.ts_running_rows.specs.Application.{Applier, Applies, applier}

@@ -1,11 +1,8 @@
 -- Rows of numbers that are handed on are the rows that are meant.
 use Rattle.std.proofs.Common.{◌≡◌, ℕ, ◌+◌, ◌<◌, ◌≤◌, ◌^◌, Bool, true, false, List, [], ◌∷◌, Option, Some, None, sym, ◌∙◌}
 use Rattle.std.specs.Prelude.{ℤ, MatchOption}
-use Rattle.ts_row.specs.Row.{Row}
-use Rattle.ts_row.specs.Element.{Element}
-use Rattle.ts_running.specs.Parts.{with_others}
-use Rattle.ts_running.specs.Binding.{Sourced}
-use Rattle.ts_running.specs.Operands.{numbers_row, applied}
+use Rattle.ts_row.specs.Row.{Row, Element}
+use Rattle.ts_running.specs.Binding.{with_others, Sourced, numbers_row, applied}
 use Rattle.ts_running.specs.Rows.{applied_to}
 use Rattle.ts_running_rows.specs.Application.{Applier, Applies, IsApplied}
 

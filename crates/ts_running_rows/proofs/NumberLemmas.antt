@@ -9,16 +9,15 @@ use Rattle.ts_row.specs.declared.kind.ColumnKind.{ColumnKind}
 use Rattle.ts_row.specs.declared.kind.ColumnKind.TheVariants.{SmallInt, Integer, BigInt, Decimal, VarChar}
 use Rattle.ts_row.specs.declared.kind.Column.{Column}
 use Rattle.ts_row.specs.declared.value.Value.{Value}
-use Rattle.ts_row.specs.RowType.{column_width, is_kind, width_of, names_of, are_distinct, keep_rules, is_row_type}
-use Rattle.ts_row.specs.Row.{Values, Row}
+use Rattle.ts_row.specs.Row.{column_width, is_kind, width_of, names_of, are_distinct, keep_rules, is_row_type, Values, Row}
 use Rattle.ts_row.specs.Decoding.{number_in, value_in, values_in}
 use Rattle.ts_entry.specs.Entry.{AreSeenBytes}
-use Rattle.ts_expr.specs.Fold.{is_null, value_at}
-use Rattle.ts_expr.specs.Fold as fold
+use Rattle.ts_expr.specs.Aggregates.{is_null, value_at}
+use Rattle.ts_expr.specs.Aggregates as fold
 use Rattle.ts_aggregate.specs.Column.{read_value, is_small}
 use Rattle.ts_aggregate.proofs.RowLemmas.{AreParts, cut, IsNone, IsSome, told, values_seen}
 use Rattle.ts_running.specs.Places.{place_if_any, place_of}
-use Rattle.ts_running.specs.Operands.{number_if_any, numbers_of}
+use Rattle.ts_running.specs.Binding.{number_if_any, numbers_of}
 
 -- the columns of a row type are of kinds that may be
 kinds_may_be : (stamp : List ℕ) (columns : List Column) → IsTrue (is_row_type stamp columns) →

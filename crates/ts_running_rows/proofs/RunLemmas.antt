@@ -4,13 +4,11 @@ use Rattle.std.specs.Prelude.{ℤ}
 use Rattle.std.specs.List.{enumerate_from}
 use Rattle.std.proofs.lemmas.List.{length-map, map-append, drop-map, take_all, take-append-le}
 use Rattle.circular_buffer.specs.Buffer.{keep_last}
-use Rattle.ts_row.specs.Row.{visible}
-use Rattle.ts_row.specs.Element.{Element}
+use Rattle.ts_row.specs.Row.{visible, Element}
 use Rattle.ts_expr.specs.declared.function.Function.{Function}
-use Rattle.ts_expr.specs.Fold.{values_of, made}
-use Rattle.ts_running.specs.Window.{window, window_at}
+use Rattle.ts_expr.specs.Aggregates.{values_of, made}
+use Rattle.ts_running.specs.Rows.{window, window_at, value_over, running}
 use Rattle.ts_running.specs.Places.{place_of, places, is_running, made_over}
-use Rattle.ts_running.specs.Rows.{value_over, running}
 use Rattle.ts_running.proofs.WindowLaws.{kept_again, nothing_kept}
 use Rattle.ts_running.proofs.PlaceLemmas.{rows, made_places}
 use Rattle.ts_running_rows.specs.Run.{row_of, run}

@@ -1,6 +1,6 @@
 -- Elements whose values of expressions are handed on one after the other.
 use Rattle.std.specs.Prelude.{◌≡◌, ℕ, ◌+◌, ◌<◌, ◌≤◌, ◌^◌, Bool, true, false, MatchOption, List, [], ◌∷◌, length}
-use Rattle.ts_row.specs.Element.{Element}
+use Rattle.ts_row.specs.Row.{Element}
 use Rattle.ts_base.specs.Answer.{most_rows}
 use Rattle.ts_running.specs.Binding.{Sourced}
 use Rattle.ts_running.specs.Rows.{applied_to, applied_all}

@@ -5,10 +5,9 @@ use Rattle.std.proofs.Common.{Option, Some, None, refl, sym, ap, subst, ◌∙�
 use Rattle.std.specs.Prelude.{MatchOption}
 use Rattle.std.proofs.Math.Nat.{le_refl, le_trans, add-zero, add_assoc, lt_of_le_of_lt, le-add_right}
 use Rattle.std.proofs.lemmas.List.Elements.{filter_map-append}
-use Rattle.ts_row.specs.Element.{Element}
+use Rattle.ts_row.specs.Row.{Element}
 use Rattle.ts_entry.specs.Entry.{Entry, element_of, elements_of}
-use Rattle.ts_running.specs.Parts.{with_others}
-use Rattle.ts_running.specs.Binding.{Sourced}
+use Rattle.ts_running.specs.Binding.{with_others, Sourced}
 use Rattle.ts_running.specs.Rows.{applied_to, applied_all}
 use Rattle.ts_running_rows.specs.Application.{Applier, Applies}
 

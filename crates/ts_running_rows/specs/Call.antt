@@ -1,8 +1,8 @@
 -- What a call makes of the elements from one stamp to another.
 use Rattle.std.specs.Prelude.{ℤ, Result, Ok, Err, List}
 use Rattle.ts_base.specs.declared.refusal.Refusal.{Refusal}
-use Rattle.ts_row.specs.Element.{Element, seen}
-use Rattle.ts_sheets.specs.Range.{within_range}
+use Rattle.ts_row.specs.Row.{Element, seen}
+use Rattle.ts_sheets.specs.Stamped.{within_range}
 use Rattle.ts_base.specs.Answer.{within_rows}
 
 -- rows that are made of elements, where these aren't refused

@@ -1,11 +1,10 @@
 -- Elements whose running values are handed on one after the other.
 use Rattle.std.specs.Prelude.{◌≡◌, ℕ, ◌+◌, ◌<◌, ◌≤◌, ◌^◌, IsTrue, ℤ, List, [], ◌∷◌, length}
-use Rattle.ts_row.specs.Row.{visible}
-use Rattle.ts_row.specs.Element.{Element}
+use Rattle.ts_row.specs.Row.{visible, Element}
 use Rattle.ts_base.specs.Answer.{most_rows}
 use Rattle.ts_expr.specs.declared.function.Function.{Function}
 use Rattle.ts_expr.specs.declared.item.BoundItem.{BoundItem}
-use Rattle.ts_running.specs.Window.{Window, after_push}
+use Rattle.ts_running.specs.Rows.{Window, after_push}
 use Rattle.ts_running.specs.Places.{place_of, is_running, made_over}
 
 -- a window after the places of elements

@@ -1,7 +1,7 @@
 // One that applies expressions to the elements that it is handed.
 ghost use Rattle.std.specs.Prelude.{◌≡◌, [], ◌∷◌, OnOk, false};
 ghost use Rattle.ts_row.specs.Row.{Row as TheRow};
-ghost use Rattle.ts_running.specs.Operands.{numbers_of};
+ghost use Rattle.ts_running.specs.Binding.{numbers_of};
 ghost use Rattle.ts_running_rows.specs.Application.{applier, IsApplied};
 
 use crate::number::numbers_in;

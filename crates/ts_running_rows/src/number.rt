@@ -4,14 +4,13 @@ ghost use Rattle.std.specs.Prelude.{◌≡◌, ◌++◌, ◌==◌, drop, if◌th
 ghost use Rattle.std.specs.Prelude.{OnOk, Some, None};
 ghost use Rattle.std.specs.List.{list_all};
 ghost use Rattle.ts_row.specs.declared.value.Value.{Value};
-ghost use Rattle.ts_row.specs.RowType.{column_width, is_kind, width_of};
-ghost use Rattle.ts_row.specs.Row.{Values, Row as TheRow};
+ghost use Rattle.ts_row.specs.Row.{column_width, is_kind, width_of, Values, Row as TheRow};
 ghost use Rattle.ts_row.specs.Decoding.{number_in, value_in, values_in};
 ghost use Rattle.ts_entry.specs.Entry.{AreSeenBytes};
-ghost use Rattle.ts_expr.specs.Fold.{value_at};
-ghost use Rattle.ts_running.specs.Window.{IsSmall};
+ghost use Rattle.ts_expr.specs.Aggregates.{value_at};
+ghost use Rattle.ts_running.specs.Rows.{IsSmall};
 ghost use Rattle.ts_running.specs.Places;
-ghost use Rattle.ts_running.specs.Operands.{number_if_any, numbers_of};
+ghost use Rattle.ts_running.specs.Binding.{number_if_any, numbers_of};
 
 use std::alloc::AllocError;
 use ts_aggregate::number;

@@ -1,6 +1,6 @@
 // One that makes running values of the elements that it is handed.
 ghost use Rattle.std.specs.Prelude.{◌≡◌, [], ◌∷◌, OnOk, IfOk};
-ghost use Rattle.ts_running.specs.Operands.{value_if_any};
+ghost use Rattle.ts_running.specs.Binding.{value_if_any};
 ghost use Rattle.ts_running.specs.Places.{made_over};
 ghost use Rattle.ts_running_rows.specs.Run.{runner, IsHandedOn};
 

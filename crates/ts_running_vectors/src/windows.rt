@@ -1,6 +1,6 @@
 // Sums and means of the last values.
 ghost use Rattle.std.specs.Prelude.{◌≤◌, IfSome};
-ghost use Rattle.ts_running.specs.Window.{IsSmall};
+ghost use Rattle.ts_running.specs.Rows.{IsSmall};
 
 use std::alloc::{AllocError, Global};
 use std::test::Fail;

@@ -3,15 +3,13 @@ use Rattle.std.proofs.Common.{◌≡◌, ℕ, ◌≤◌, true, false, nat_le, if
 use Rattle.std.specs.List.{list_all}
 use Rattle.std.proofs.lemmas.Bool.Decides.{nat_tests}
 use Rattle.std.proofs.lemmas.List.{take_all}
-use Rattle.ts_base.specs.StampText.{stamp_text}
+use Rattle.ts_base.specs.Moment.{stamp_text}
 use Rattle.ts_row.specs.declared.kind.Column.{Column}
 use Rattle.ts_row.specs.declared.kind.ColumnKind.{ColumnKind}
 use Rattle.ts_row.specs.declared.value.Value.{Value}
 use Rattle.ts_row.specs.declared.value.Value.TheVariants.{Null}
-use Rattle.ts_row.specs.RowType.{column_width, is_kind, is_row_type, scale_of, width_of}
-use Rattle.ts_row.specs.Row.{Values, Row}
+use Rattle.ts_row.specs.Row.{column_width, is_kind, is_row_type, scale_of, width_of, Values, Row, value_text, values_text}
 use Rattle.ts_row.specs.Encoding.{values_bytes, with_mark}
-use Rattle.ts_row.specs.Printed.{value_text, values_text}
 use Rattle.ts_row.specs.Decoding.{all_zero, value_in, put_first, values_in}
 use Rattle.ts_row.proofs.PrintLemmas.{print_more}
 use Rattle.ts_row.proofs.RowBytesLemmas.{values_in-values_bytes, with_mark-none}

@@ -1,7 +1,6 @@
 -- The text of a stamp is that of its day and that of its time.
 use Rattle.std.proofs.Common.{◌≡◌, ℕ, ℤ, List, [], ◌∷◌, ◌++◌, take, refl, sym, ap, ◌∙◌, append_assoc}
-use Rattle.ts_base.specs.Moment.{day_of, clock_of}
-use Rattle.ts_base.specs.StampText.{stamp_text}
+use Rattle.ts_base.specs.Moment.{day_of, clock_of, stamp_text}
 use Rattle.ts_say.specs.Day.{day_text, time_text}
 
 -- its first bytes are those of its day

@@ -2,7 +2,7 @@
 use Rattle.std.proofs.Common.{◌≡◌, ℕ, ◌+◌, ◌/◌, ◌%◌, ◌^◌, ◌<◌, ◌≤◌, List, [], ◌∷◌, ◌++◌, ap, ◌∙◌, append_assoc, arith}
 use Rattle.std.specs.Fmt.{decimal}
 use Rattle.std.proofs.lemmas.Fmt.{decimal_digit, decimal_step}
-use Rattle.ts_base.specs.StampText.{digit, two_digits}
+use Rattle.ts_base.specs.Moment.{digit, two_digits}
 
 pub one_digit : (n : ℕ) → n < 10 → decimal n ≡ digit n ∷ []
 one_digit n few =

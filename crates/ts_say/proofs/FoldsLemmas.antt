@@ -3,9 +3,8 @@ use Rattle.std.proofs.Common.{◌≡◌, ℕ, ◌≤◌, ◌⊎◌, inl, inr, Li
 use Rattle.std.specs.Prelude.{ℤ}
 use Rattle.std.proofs.lemmas.List.{length-map}
 use Rattle.ts_row.specs.declared.value.Value.{Value}
-use Rattle.ts_row.specs.Row.{Values}
-use Rattle.ts_row.specs.Printed.{value_text}
-use Rattle.ts_running.specs.Operands.{value_if_any}
+use Rattle.ts_row.specs.Row.{Values, value_text}
+use Rattle.ts_running.specs.Binding.{value_if_any}
 use Rattle.ts_answer.specs.Reply.{scaled_text}
 
 -- a value before others, with a comma between

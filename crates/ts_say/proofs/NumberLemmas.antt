@@ -5,7 +5,7 @@ use Rattle.std.proofs.lemmas.Fmt.{decimal_digit, decimal_step_wide}
 use Rattle.std.proofs.lemmas.Nat.{div-mul-add, mod-mul-add, div-add-mod'}
 use Rattle.std.proofs.lemmas.Bool.Decides.{nat_tests}
 use Rattle.std.proofs.Math.Nat.{pow-suc, pow-le-pow_right}
-use Rattle.ts_row.specs.Printed.{last_digits, size_text}
+use Rattle.ts_row.specs.Row.{last_digits, size_text}
 use Rattle.ts_row.proofs.LiteralLemmas.{ten_pow_positive}
 
 -- a number in its tens and its last digit, and what is left of it behind a one, likewise

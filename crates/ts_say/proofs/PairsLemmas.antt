@@ -1,7 +1,7 @@
 -- The table has the digits of each number.
 use Rattle.std.proofs.Common.{◌≡◌, ℕ, zero, suc, ◌+◌, ◌-◌, ◌*◌, ◌/◌, ◌<◌, Bool, true, ◌&&◌, T, eqb, get_or, inl, inr, arith, eq-zero-or-pos, eqb→eq}
 use lib.Ieee.Fits.{and_l, and_r}
-use Rattle.ts_base.specs.StampText.{digit}
+use Rattle.ts_base.specs.Moment.{digit}
 use Rattle.ts_say.specs.declared.pairs.TheConstants.{PAIRS}
 
 abbrev are_pairs : ℕ → Bool

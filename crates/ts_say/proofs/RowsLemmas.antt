@@ -3,12 +3,10 @@ use Rattle.std.proofs.Common.{◌≡◌, ℕ, suc, ◌≤◌, true, IsTrue, IfSo
 use Rattle.std.specs.Option.{option_copied}
 use Rattle.std.proofs.lemmas.Bool.Decides.{nat_tests}
 use Rattle.std.proofs.lemmas.List.{length-replicate}
-use Rattle.ts_base.specs.StampText.{stamp_text}
+use Rattle.ts_base.specs.Moment.{stamp_text}
 use Rattle.ts_row.specs.declared.kind.Column.{Column}
 use Rattle.ts_row.specs.declared.value.Value.TheVariants.{Null}
-use Rattle.ts_row.specs.RowType.{is_row_type, scale_of}
-use Rattle.ts_row.specs.Row.{Values, Row, hold, fits, visible}
-use Rattle.ts_row.specs.Printed.{value_text, values_text}
+use Rattle.ts_row.specs.Row.{is_row_type, scale_of, Values, Row, hold, fits, visible, value_text, values_text}
 use Rattle.ts_row.proofs.PrintLemmas.{print_more}
 use Rattle.ts_combine.specs.Combine.{values_or_nulls}
 use Rattle.ts_answer.specs.Reply.{element_line}

@@ -1,7 +1,6 @@
 -- The text of a stamp in two parts, that of its day and that of its time of day.
 use Rattle.std.specs.Prelude.{◌≡◌, ℕ, ◌/◌, ◌%◌, ℤ, pos, ◌*ℤ◌, List, [], ◌∷◌, ◌++◌}
-use Rattle.ts_base.specs.Moment.{civil_of, day_of}
-use Rattle.ts_base.specs.StampText.{two_digits, four_digits, five_digits}
+use Rattle.ts_base.specs.Moment.{civil_of, day_of, two_digits, four_digits, five_digits}
 
 -- the text of a day, and a blank
 abbrev pub day_text : ℤ → List ℕ

@@ -1,10 +1,9 @@
 // The text of the day on which stamps lie.
 ghost use Rattle.std.specs.Prelude.{◌≡◌, ◌/◌, ◌%◌, ◌<◌, ◌∷◌, ◌++◌, [], take, OnOk, OnErr};
-ghost use Rattle.ts_base.specs.Moment.{IsStamp, day_of, clock_of};
-ghost use Rattle.ts_base.specs.StampText.{stamp_text};
-ghost use Rattle.ts_base.specs.StampText;
+ghost use Rattle.ts_base.specs.Moment.{IsStamp, day_of, clock_of, stamp_text};
+ghost use Rattle.ts_base.specs.Moment;
 ghost use Rattle.ts_say.specs.Day.{day_text, time_text, IsMidnight};
-ghost use Rattle.ts_row.specs.Printed.{Extends};
+ghost use Rattle.ts_row.specs.Row.{Extends};
 
 use crate::pairs::two_digits;
 use std::alloc::AllocError;
@@ -210,7 +209,7 @@ fn clock_parts(clock: u64) -> (u32, u32, u32, u32)
 #[inline(always)]
 fn five_digits(n: u32) -> [u8; 5]
     requires { n < 100_000 }
-    ensures { result ≡ StampText.five_digits n }
+    ensures { result ≡ Moment.five_digits n }
 {
     if n == 0 {
         return [b'0'; 5];

@@ -1,6 +1,6 @@
 // The digits of small numbers, by a table.
 ghost use Rattle.std.specs.Prelude.{◌≡◌, ◌<◌};
-ghost use Rattle.ts_base.specs.StampText;
+ghost use Rattle.ts_base.specs.Moment;
 
 /// The two digits of each number below a hundred.
 static PAIRS: [u8; 200] =
@@ -11,7 +11,7 @@ static PAIRS: [u8; 200] =
 #[inline(always)]
 pub(crate) fn two_digits(n: u32) -> [u8; 2]
     requires { n < 100 }
-    ensures { result ≡ StampText.two_digits n }
+    ensures { result ≡ Moment.two_digits n }
 {
     let from = n as usize * 2;
     [PAIRS[from], PAIRS[from + 1]]

@@ -1,7 +1,7 @@
 // What a reply says.
 ghost use Rattle.std.specs.Prelude.{◌≡◌, ◌++◌, OnOk, OnErr};
 ghost use Rattle.ts_answer.specs.Reply.{ok_line, refusal_line};
-ghost use Rattle.ts_row.specs.Printed.{Extends};
+ghost use Rattle.ts_row.specs.Row.{Extends};
 
 use crate::say_values::say_number;
 use std::alloc::AllocError;

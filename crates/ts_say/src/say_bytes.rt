@@ -5,10 +5,9 @@ ghost use Rattle.std.specs.List.{list_all};
 ghost use Rattle.std.specs.Int.{cast_signed, from_be_bytes, w64, w128};
 ghost use Rattle.ts_row.specs.declared.value.Value.{Value};
 ghost use Rattle.ts_row.specs.declared.value.Value.TheVariants.{Null};
-ghost use Rattle.ts_row.specs.RowType.{column_width, is_kind, scale_of, width_of};
-ghost use Rattle.ts_row.specs.Row.{Values};
+ghost use Rattle.ts_row.specs.Row.{column_width, is_kind, scale_of, width_of, Values, number_text, value_text};
+ghost use Rattle.ts_row.specs.Row.{values_text, Extends};
 ghost use Rattle.ts_row.specs.Decoding.{text_in, filled_in, value_in, values_in};
-ghost use Rattle.ts_row.specs.Printed.{number_text, value_text, values_text, Extends};
 
 use crate::say_numbers::{say_long_decimal, say_short_decimal, say_whole};
 use crate::say_values::say_quoted;

@@ -2,7 +2,7 @@
 ghost use Rattle.std.specs.Prelude.{◌≡◌, ◌++◌, OnOk, OnErr, codes, length};
 ghost use Rattle.std.specs.List.{flat_map};
 ghost use Rattle.ts_answer.specs.Reply.{ok_line, pattern_lines, calendar_lines, stamp_row, stamps_text};
-ghost use Rattle.ts_row.specs.Printed.{Extends};
+ghost use Rattle.ts_row.specs.Row.{Extends};
 
 use crate::say::say_ok;
 use crate::say_values::{say_count, say_stamp_text};

@@ -1,11 +1,9 @@
 // Entries of a series, said in lines.
 ghost use Rattle.std.specs.Prelude.{◌≡◌, ◌++◌, List, length, None, OnOk, OnErr, Some};
 ghost use Rattle.ts_row.specs.declared.kind.Column.{Column};
-ghost use Rattle.ts_row.specs.Row.{Row as TheRow};
-ghost use Rattle.ts_row.specs.RowType.{width_of};
+ghost use Rattle.ts_row.specs.Row.{Row as TheRow, width_of, Extends};
 ghost use Rattle.ts_entry.specs.Entry.{AreSeenBytes};
 ghost use Rattle.ts_answer.specs.Reply.{entry_line};
-ghost use Rattle.ts_row.specs.Printed.{Extends};
 
 use crate::day_text::DayText;
 use crate::say_bytes::say_values_in;

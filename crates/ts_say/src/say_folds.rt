@@ -1,8 +1,8 @@
 // What an aggregate list makes of elements, and rows of numbers, said in lines.
 ghost use Rattle.std.specs.Prelude.{◌≡◌, ◌↔◌, ◌⊎◌, ◌≤◌, [], ◌∷◌, ◌++◌, All, IsTrue, OnOk, OnErr, length, map};
-ghost use Rattle.ts_expr.specs.Binding.{most_scale};
-ghost use Rattle.ts_row.specs.Printed.{value_text, Extends};
-ghost use Rattle.ts_running.specs.Operands.{value_if_any, numbers_row};
+ghost use Rattle.ts_expr.specs.Aggregates.{most_scale};
+ghost use Rattle.ts_row.specs.Row.{value_text, Extends};
+ghost use Rattle.ts_running.specs.Binding.{value_if_any, numbers_row};
 ghost use Rattle.ts_answer.specs.Reply.{scaled_text, folded_line, folded_text, series_folded_line};
 
 use crate::day_text::DayText;

@@ -1,7 +1,7 @@
 // Numbers with digits after a point.
 ghost use Rattle.std.specs.Prelude.{◌≡◌, ◌≤◌, ◌<◌, ◌∷◌, ◌++◌, [], decimal, drop, OnOk, OnErr};
-ghost use Rattle.ts_row.specs.Printed.{number_text, size_text, Extends};
-ghost use Rattle.ts_expr.specs.Binding.{most_scale};
+ghost use Rattle.ts_row.specs.Row.{number_text, size_text, Extends};
+ghost use Rattle.ts_expr.specs.Aggregates.{most_scale};
 
 use crate::pairs::two_digits;
 use itoa::{Buffer, Integer};

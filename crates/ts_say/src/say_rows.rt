@@ -3,11 +3,9 @@ ghost use Rattle.std.specs.Prelude.{◌≡◌, ◌↔◌, ◌⊎◌, ◌≤◌, 
 ghost use Rattle.std.specs.List.{list_all};
 ghost use Rattle.std.specs.Option.{option_copied};
 ghost use Rattle.ts_row.specs.declared.value.Value.TheVariants.{Null};
-ghost use Rattle.ts_row.specs.RowType.{is_kind};
-ghost use Rattle.ts_row.specs.Row.{fits, visible};
-ghost use Rattle.ts_row.specs.Printed.{number_text, value_text, values_text, Extends};
+ghost use Rattle.ts_row.specs.Row.{is_kind, fits, visible, number_text, value_text, values_text, Extends};
 ghost use Rattle.ts_combine.specs.Combine.{values_or_nulls};
-ghost use Rattle.ts_expr.specs.Binding.{most_scale};
+ghost use Rattle.ts_expr.specs.Aggregates.{most_scale};
 ghost use Rattle.ts_answer.specs.Reply.{element_line};
 
 use crate::day_text::DayText;

@@ -1,9 +1,8 @@
 // What a reply says of counts, stamps, elements and series.
 ghost use Rattle.std.specs.Prelude.{◌≡◌, ◌++◌, IsTrue, IfSome, OnOk, OnErr, decimal, map, option_to_list};
 ghost use Rattle.std.specs.List.{flat_map};
-ghost use Rattle.ts_base.specs.StampText.{stamp_text};
-ghost use Rattle.ts_row.specs.Row.{fits};
-ghost use Rattle.ts_row.specs.Printed.{quoted, Extends};
+ghost use Rattle.ts_base.specs.Moment.{stamp_text};
+ghost use Rattle.ts_row.specs.Row.{fits, quoted, Extends};
 ghost use Rattle.ts_answer.specs.Reply.{count_line, counts_line, number_line, stamp_line, element_line, elements_text};
 ghost use Rattle.ts_answer.specs.Reply.{series_line, shape_word};
 

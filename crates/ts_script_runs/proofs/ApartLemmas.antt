@@ -4,7 +4,7 @@ use Rattle.ts_replies.specs.Acknowledged.{memory_line, TellsApart}
 use Rattle.ts_replies.proofs.Apart.{by_memory_line}
 use Rattle.ts_answer.specs.Answer.{may_lack_memory}
 use Rattle.ts_answer.proofs.ApartLemmas as engine
-use Rattle.ts_script_runs.specs.Run.{script}
+use Rattle.ts_script_runs.specs.Script.{script}
 
 -- the line that may stand is this one, if any may
 the_line : (line other : List ℕ) (may : Bool) → cond {A = Option (List ℕ)} may (Some line) None ≡ Some other → other ≡ line

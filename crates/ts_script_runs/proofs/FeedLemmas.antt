@@ -7,10 +7,10 @@ use Rattle.ts_items.proofs.ItemLaws.{items_from-append}
 use Rattle.ts_items.specs.declared.reader.Cut.{Cut}
 use Rattle.ts_items.specs.declared.reader.Cut.TheVariants as cuts
 use Rattle.ts_base.specs.declared.refusal.Refusal.TheVariants as refusals
-use Rattle.ts_command.specs.Script.{Request, request_of, requests, last_request}
+use Rattle.ts_command.specs.Grammar.{Request, request_of, requests, last_request}
 use Rattle.ts_opening.specs.Engine.{Kept, IsReady}
 use Rattle.ts_carriers.specs.declared.fault.RunFault.{RunFault}
-use Rattle.ts_script_runs.specs.Run.{script, by_engine, requests_from, requests_at_end}
+use Rattle.ts_script_runs.specs.Script.{script, by_engine, requests_from, requests_at_end}
 use Rattle.ts_script_runs.proofs.ItemLemmas.{steady}
 use Rattle.ts_carriers.specs.Run.{Ran}
 use Rattle.ts_carriers.proofs.CallerLemmas.{ran_none, ran_as, ran_front, ran_then}

@@ -5,8 +5,7 @@ use Rattle.std.specs.Fmt.{digits}
 use Rattle.std.proofs.lemmas.List.{append-nil}
 use Rattle.ts_disk.specs.Device.{Device, Lawful, Within, Says}
 use Rattle.ts_disk.proofs.Moments.{leaves_map}
-use Rattle.ts_journal.specs.Entry.{over}
-use Rattle.ts_journal.specs.Journal.{StandsOver}
+use Rattle.ts_journal.specs.Journal.{over, StandsOver}
 use Rattle.ts_journal.proofs.CallerLemmas.{over_pages}
 use Rattle.ts_store.specs.OpenBatch.{State as Store, IsIdle, committed_pages, read_pages, contents_over}
 use Rattle.ts_store.specs.OpenBatch.{rolled_back as store_rolled_back}
@@ -19,13 +18,13 @@ use Rattle.ts_base.specs.declared.fault.Trouble.TheVariants.{Refused}
 use Rattle.ts_base.specs.declared.refusal.Refusal.{Refusal}
 use Rattle.ts_base.specs.declared.refusal.Refusal.TheVariants as refusals
 use Rattle.ts_command.specs.Misfit.{IsCause}
-use Rattle.ts_command.specs.Script.{Request, or_syntax}
-use Rattle.ts_replies.specs.Acknowledged.{IsStep, memory_line}
+use Rattle.ts_command.specs.Grammar.{Request, or_syntax}
+use Rattle.ts_replies.specs.Acknowledged.{IsStep, memory_line, IsGoodMoment}
 use Rattle.ts_replies.proofs.Steps.{one_waits, none_good}
 use Rattle.ts_opening.specs.Engine.{StepFault}
 use Rattle.ts_opening.specs.Faults as faults
 use Rattle.ts_answer.specs.Reply.{refusal_line}
-use Rattle.ts_answer.specs.State.{State, committed, newest, run_outcome, run_answer}
+use Rattle.ts_answer.specs.Answer.{State, committed, newest, run_outcome, run_answer}
 use Rattle.ts_answer.specs.View.{IsSeen}
 use Rattle.ts_volume.specs.Volume.{MeansCatalogue}
 use Rattle.ts_opening.specs.Engine.{Saved}
@@ -35,9 +34,8 @@ use Rattle.ts_opening.specs.Engine.{Stepped, state_after}
 use Rattle.ts_carriers.specs.declared.fault.RunFault.{RunFault}
 use Rattle.ts_carriers.specs.declared.fault.RunFault.TheVariants.{Disk, Output}
 use Rattle.ts_script_runs.proofs.ApartLemmas.{apart}
-use Rattle.ts_script_runs.specs.Run.{script, by_engine}
+use Rattle.ts_script_runs.specs.Script.{script, by_engine}
 use Rattle.ts_carriers.specs.Run.{Ran}
-use Rattle.ts_replies.specs.Good.{IsGoodMoment}
 use Rattle.ts_carriers.proofs.CallerLemmas.{IsSteady, Waits, Steps, said_line}
 
 -- where nothing is written, an engine stands where it stood

@@ -1,23 +1,20 @@
 -- A run behind an opening.
 use Rattle.std.proofs.Common.{◌≡◌, ◌⊎◌, inl, inr, ⊎_elim, ℕ, ◌≤◌, Bool, false, IsTrue, List, [], ◌++◌, length, Result, Ok, Err, refl, sym, ◌∙◌, ap, subst, arith, length-append}
-use Rattle.ts_disk.specs.Device.{Device, Lawful, Within, FirstSync, LeavesOnly}
-use Rattle.ts_disk.specs.Input.{Input}
+use Rattle.ts_disk.specs.Device.{Device, Lawful, Within, FirstSync, LeavesOnly, Input}
 use Rattle.ts_disk.proofs.Moments.{first_map}
-use Rattle.ts_command.specs.Script.{Request}
+use Rattle.ts_command.specs.Grammar.{Request}
 use Rattle.ts_model.specs.Catalogue.{Catalogue}
-use Rattle.ts_answer.specs.State.{resting}
+use Rattle.ts_answer.specs.Answer.{resting}
 use Rattle.ts_container.specs.declared.fault.SurveyFault.{SurveyFault}
 use Rattle.ts_opening.specs.Engine.{Engine}
 use Rattle.ts_volume.specs.Volume.{MeansCatalogue}
 use Rattle.ts_opening.specs.Engine.{Started, StillMeans}
 use Rattle.ts_script_runs.proofs.ApartLemmas.{apart}
-use Rattle.ts_script_runs.specs.Run.{script}
-use Rattle.ts_opening.specs.Opening.{status_of_opening, OpensStore}
-use Rattle.ts_script_runs.specs.Script.{most_script, IsScriptEnd, asked_of, OpenedRan, ScriptFrom, ScriptRan}
+use Rattle.ts_script_runs.specs.Script.{script, most_script, IsScriptEnd, asked_of, OpenedRan, ScriptFrom, ScriptRan}
+use Rattle.ts_opening.specs.Opening.{status_of_opening, OpensStore, Took, TookEnough, TookTooMuch}
 use Rattle.ts_carriers.proofs.CallerLemmas.{never, rose_on}
 use Rattle.ts_replies.specs.Said.{SaysFairly, AllDone}
-use Rattle.ts_replies.specs.Good.{IsGoodMoment}
-use Rattle.ts_opening.specs.Taken.{Took, TookEnough, TookTooMuch}
+use Rattle.ts_replies.specs.Acknowledged.{IsGoodMoment}
 use Rattle.ts_opening.proofs.CallerLemmas.{first_then, first_now, good_first, ran_from, silent, unopened_now, unopened_store, unopened_status, unopened_unwritten, is_unopened, opened_store}
 
 -- nothing was taken of the source

@@ -1,20 +1,18 @@
 -- How a run over a script ends.
 use Rattle.std.proofs.Common.{◌≡◌, ◌⊎◌, inl, inr, ⊎_elim, ℕ, ◌+◌, ◌≤◌, ◌<◌, Bool, true, false, IsTrue, List, [], ◌++◌, length, Result, Ok, Err, IsErr, refl, sym, ◌∙◌, ap, subst, arith, length-append}
 use Rattle.std.proofs.lemmas.List.{append-nil, take_all, take_at}
-use Rattle.ts_disk.specs.Device.{Device, LeavesOnly, Rose}
-use Rattle.ts_disk.specs.Input.{Input}
-use Rattle.ts_command.specs.Script.{Request, requests, last_request}
-use Rattle.ts_answer.specs.State.{State}
+use Rattle.ts_disk.specs.Device.{Device, LeavesOnly, Rose, Input}
+use Rattle.ts_command.specs.Grammar.{Request, requests, last_request}
+use Rattle.ts_answer.specs.Answer.{State}
 use Rattle.ts_opening.specs.Engine.{Kept, IsAt}
 use Rattle.ts_carriers.specs.declared.fault.RunFault.{RunFault}
 use Rattle.ts_carriers.specs.declared.fault.RunFault.TheVariants.{Disk, Output}
-use Rattle.ts_script_runs.specs.Run.{script, by_engine}
+use Rattle.ts_script_runs.specs.Script.{script, by_engine, asked_in, asked_of, most_script, IsScriptEnd, RanOn, OpenedRan}
 use Rattle.ts_carriers.proofs.CallerLemmas.{never}
 use Rattle.ts_carriers.specs.Run.{Answered, Ran, status_of, status_of_end}
 use Rattle.ts_replies.specs.Said.{SaysFairly, AllDone}
-use Rattle.ts_replies.specs.Good.{IsGoodMoment}
-use Rattle.ts_opening.specs.Taken.{Took}
-use Rattle.ts_script_runs.specs.Script.{asked_in, asked_of, most_script, IsScriptEnd, RanOn, OpenedRan}
+use Rattle.ts_replies.specs.Acknowledged.{IsGoodMoment}
+use Rattle.ts_opening.specs.Opening.{Took}
 
 -- what bytes ask for that keep the limit
 in_limit : (taken : List ℕ) → length taken ≤ 268435456 → requests taken ≡ asked_in taken

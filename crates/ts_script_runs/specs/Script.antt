@@ -1,19 +1,45 @@
--- What carrying out the script of a source does.
-use Rattle.std.specs.Prelude.{◌≡◌, ◌⊎◌, ℕ, ◌+◌, ◌≤◌, Bool, false, IsTrue, if◌then◌else◌, List, [], ◌++◌}
-use Rattle.std.specs.Prelude.{length, take, ◌≢◌}
-use Rattle.ts_disk.specs.Device.{Device, Within, Rose, LeavesOnly}
-use Rattle.ts_disk.specs.Input.{Input}
-use Rattle.ts_command.specs.Script.{Request, requests, last_request}
-use Rattle.ts_replies.specs.Acknowledged.{Protocol}
+-- What a run of a script has done.
+use Rattle.std.specs.Prelude.{ℕ, ◌+◌, ◌≤◌, Bool, false, IsTrue, if◌then◌else◌, List, [], ◌++◌, ◌∷◌, map, Option, Err}
+use Rattle.std.specs.Prelude.{◌≡◌, ◌⊎◌, length, take, ◌≢◌}
+use Rattle.ts_disk.specs.Device.{Device, Within, Rose, LeavesOnly, Input}
+use Rattle.ts_base.specs.declared.refusal.Refusal.TheVariants as refusals
 use Rattle.ts_model.specs.Catalogue.{Catalogue}
-use Rattle.ts_answer.specs.State.{State, resting}
 use Rattle.ts_volume.specs.Volume.{MeansCatalogue}
-use Rattle.ts_opening.specs.Engine.{Kept, IsAt}
+use Rattle.ts_items.specs.Items.{items_from, is_unended_at}
+use Rattle.ts_command.specs.Grammar.{Request, requests, last_request, request_of}
+use Rattle.ts_replies.specs.Acknowledged.{Protocol, IsGoodMoment}
 use Rattle.ts_replies.specs.Said.{SaysFairly, AllDone}
-use Rattle.ts_replies.specs.Good.{IsGoodMoment}
-use Rattle.ts_opening.specs.Opening.{OpensStore}
-use Rattle.ts_opening.specs.Taken.{Took, TookTooMuch, TookEnough, RanFrom}
-use Rattle.ts_script_runs.specs.Run.{script}
+use Rattle.ts_answer.specs.Answer.{State, resting, committed, run_answer, stand_in}
+use Rattle.ts_carriers.specs.Run.{Carrier}
+use Rattle.ts_opening.specs.Engine.{Kept, IsReady, IsAt}
+use Rattle.ts_opening.specs.Opening.{OpensStore, Took, TookTooMuch, TookEnough, RanFrom}
+
+-- A run over an engine: what a script asks for, and how it is answered.
+
+-- what the items ask for that end within these bytes, which come at this place of a script
+abbrev pub requests_from : Option (List ℕ) → List ℕ → List Request
+requests_from place bytes = map request_of (items_from place bytes)
+
+-- what a script asks for besides that ends at this place
+abbrev pub requests_at_end : Option (List ℕ) → List Request
+requests_at_end place = if is_unended_at place then Err refusals.Unended ∷ [] else []
+
+-- How the requests of a script are answered from one state to the next. An image means the catalogue that is committed
+-- there.
+abbrev pub script : Protocol State Request
+script = record {
+  answer = run_answer;
+  stand_in = stand_in;
+  means =
+      λ image state. MeansCatalogue image (committed state);
+}
+
+-- an engine stands at a state, whose base its volume means
+abbrev pub by_engine : Bool → Carrier Kept State
+by_engine tells =
+    record { tells = tells; ready = IsReady tells; stands = λ e state d. IsAt tells e state d }
+
+-- What carrying out the script of a source does.
 
 -- what those items ask for that end within these bytes, and within the first 268435456 bytes of the script
 abbrev pub asked_in : List ℕ → List Request

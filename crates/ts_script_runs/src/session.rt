@@ -5,11 +5,10 @@ ghost use Rattle.ts_disk.specs.Device.{Says};
 ghost use Rattle.ts_items.specs.Items.{place_from};
 ghost use Rattle.ts_items.specs.Reader.{item_of};
 ghost use Rattle.ts_command.specs.Form.{HasForm};
-ghost use Rattle.ts_command.specs.Grammar.{command_of};
-ghost use Rattle.ts_command.specs.Script.{request_of, or_syntax};
+ghost use Rattle.ts_command.specs.Grammar.{command_of, request_of, or_syntax};
 ghost use Rattle.ts_opening.specs.Engine.{IsReady};
 ghost use Rattle.ts_carriers.specs.Run.{Ran};
-ghost use Rattle.ts_script_runs.specs.Run.{script, by_engine, requests_from, requests_at_end};
+ghost use Rattle.ts_script_runs.specs.Script.{script, by_engine, requests_from, requests_at_end};
 
 use std::alloc::Global;
 use std::thread::Threads;

@@ -8,12 +8,10 @@ use Rattle.ts_space.specs.declared.moved.Moved.{Moved}
 use Rattle.ts_space.specs.Moved.{moved_to}
 use Rattle.ts_page.specs.Pages.{Contents, Answered}
 use Rattle.ts_row.specs.declared.kind.Column.{Column}
-use Rattle.ts_row.specs.Row.{Row}
-use Rattle.ts_row.specs.Element.{Element}
+use Rattle.ts_row.specs.Row.{Row, Element}
 use Rattle.ts_irregular.specs.Edit.{element_at}
 use Rattle.ts_irregular.specs.Call.{Stays, Reads}
-use Rattle.ts_sheets.specs.Chain.{all_in}
-use Rattle.ts_sheets.specs.Placing.{place_for}
+use Rattle.ts_sheets.specs.Stamped.{all_in, place_for}
 use Rattle.ts_chain.specs.Call.{IsTold, IsReplaced, IsPutNew, IsThereAlready, IsPlaceIn}
 use Rattle.ts_sheets.proofs.OrderLemmas.{pages_in_order}
 use Rattle.ts_series.specs.declared.edits.EditKind.TheVariants.{Put, PutNoDups, Update}

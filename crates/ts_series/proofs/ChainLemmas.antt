@@ -4,12 +4,10 @@ use Rattle.std.proofs.lemmas.Int.{ints}
 use Rattle.ts_space.specs.declared.place.Place.{Place}
 use Rattle.ts_space.specs.Place.{AreAbove, IsRising, count_of}
 use Rattle.ts_row.specs.declared.kind.Column.{Column}
-use Rattle.ts_row.specs.Element.{Element}
-use Rattle.ts_cells.specs.Cell.{page_room}
-use Rattle.ts_cells.specs.IrregularPage.{first_stamp}
-use Rattle.ts_sheets.specs.Chain.{all_in, AreEarlier, AreLater, ArePages, AreSized, IsDense}
+use Rattle.ts_row.specs.Row.{Element}
+use Rattle.ts_cells.specs.IrregularPage.{page_room, first_stamp}
+use Rattle.ts_sheets.specs.Stamped.{all_in, AreEarlier, AreLater, ArePages, AreSized, IsDense, earlier}
 use Rattle.ts_sheets.specs.Places.{AreChained}
-use Rattle.ts_sheets.specs.Placing.{earlier}
 use Rattle.ts_sheets.proofs.OrderLemmas.{all_in-append, earlier_than, later_than}
 use Rattle.ts_sheets.proofs.DenseLemmas.{MeetsLeft, MeetsRight, dense_left, dense_right, dense_made, meets_left, meets_right}
 use Rattle.ts_chain.proofs.PlaceLemmas.{above_than, chain_earlier}

@@ -9,14 +9,11 @@ use Rattle.ts_space.specs.declared.moved.Come.TheVariants.{Nothing, One, Two}
 use Rattle.ts_space.specs.Place.{AreAbove, IsRising, count_of, pages_of}
 use Rattle.ts_space.specs.Moved.{list_of}
 use Rattle.ts_row.specs.declared.kind.Column.{Column}
-use Rattle.ts_row.specs.Element.{Element}
-use Rattle.ts_cells.specs.Cell.{page_room}
-use Rattle.ts_cells.specs.IrregularPage.{AreRising, AreInOrder, first_stamp}
+use Rattle.ts_row.specs.Row.{Element}
+use Rattle.ts_cells.specs.IrregularPage.{page_room, AreRising, AreInOrder, first_stamp}
 use Rattle.ts_irregular.specs.OnePage.{IsOn}
-use Rattle.ts_sheets.specs.Chain.{all_in, AreEarlier, AreLater, ArePages, AreSized, IsDense, IsChain}
+use Rattle.ts_sheets.specs.Stamped.{all_in, AreEarlier, AreLater, ArePages, AreSized, IsDense, IsChain, earlier, is_within, within_range, without_range}
 use Rattle.ts_sheets.specs.Places.{AreChained}
-use Rattle.ts_sheets.specs.Placing.{earlier}
-use Rattle.ts_sheets.specs.Range.{is_within, within_range, without_range}
 use Rattle.ts_sheets.proofs.OrderLemmas.{all_in-append, later_front, pages_in_order, sized_pages, sized_front, sized_back, sized_both, pages_made}
 use Rattle.ts_sheets.proofs.DenseLemmas.{dense_front, dense_back, dense_cons, dense_made}
 use Rattle.ts_chain.proofs.EditLemmas.{all_between}

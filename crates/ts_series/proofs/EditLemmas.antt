@@ -6,11 +6,10 @@ use Rattle.ts_space.specs.Place.{pages_of}
 use Rattle.ts_space.specs.Moved.{moved_to}
 use Rattle.ts_page.specs.Pages.{Contents}
 use Rattle.ts_row.specs.declared.kind.Column.{Column}
-use Rattle.ts_row.specs.Row.{Row}
-use Rattle.ts_row.specs.Element.{Element}
+use Rattle.ts_row.specs.Row.{Row, Element}
 use Rattle.ts_irregular.specs.Edit.{element_at, with_element}
 use Rattle.ts_irregular.specs.Call.{Stays}
-use Rattle.ts_sheets.specs.Chain.{all_in}
+use Rattle.ts_sheets.specs.Stamped.{all_in}
 use Rattle.ts_sheets.specs.Places.{AreChained, AreMoved}
 use Rattle.ts_chain.specs.Call.{IsTold, AreWritten}
 use Rattle.ts_series.specs.declared.edits.EditKind.{EditKind}

@@ -5,13 +5,12 @@ use Rattle.ts_space.specs.declared.place.Place.{Place}
 use Rattle.ts_space.specs.Place.{AreAbove, count_of}
 use Rattle.ts_page.specs.Pages.{Contents, EqualPages}
 use Rattle.ts_row.specs.declared.kind.Column.{Column}
-use Rattle.ts_row.specs.Element.{Element}
+use Rattle.ts_row.specs.Row.{Element}
 use Rattle.ts_cells.specs.IrregularPage.{AreElements, behind_head, irregular_page, first_stamp}
 use Rattle.ts_cells.proofs.HeadLemmas.{irregular_behind}
 use Rattle.ts_irregular.specs.OnePage.{IsOn}
-use Rattle.ts_sheets.specs.Chain.{all_in, ArePages}
+use Rattle.ts_sheets.specs.Stamped.{all_in, ArePages, earlier}
 use Rattle.ts_sheets.specs.Places.{AreChained}
-use Rattle.ts_sheets.specs.Placing.{earlier}
 use Rattle.ts_sheets.proofs.OrderLemmas.{all_in-append, earlier_than}
 use Rattle.ts_chain.proofs.PlaceLemmas.{Cut, cut, chain_earlier, chain_later}
 use Rattle.ts_chain.proofs.RemoveLemmas.{count_parts}

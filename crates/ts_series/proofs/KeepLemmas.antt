@@ -11,7 +11,7 @@ use Rattle.ts_irregular.specs.OnePage.{IsOn, IsPlace}
 use Rattle.ts_sheets.specs.Places.{AreChained, ArePlaces}
 use Rattle.ts_chain.proofs.RestLemmas.{places_same}
 use Rattle.ts_series.specs.declared.joins.Joins.{Joins}
-use Rattle.ts_row.specs.Element.{Element}
+use Rattle.ts_row.specs.Row.{Element}
 use Rattle.ts_series.specs.Ends.{AreParts, AreKept, CanBegin}
 use Rattle.ts_series.proofs.LayLemmas.{pairs_rest, rest_all, rising_back_of}
 

@@ -10,9 +10,8 @@ use Rattle.ts_space.specs.declared.place.Place.{Place}
 use Rattle.ts_space.specs.Place.{AreAbove, IsRising, pages_of}
 use Rattle.ts_page.specs.Pages.{Contents, EqualPages, with_page, IsOutsideJournal}
 use Rattle.ts_row.specs.declared.kind.Column.{Column}
-use Rattle.ts_row.specs.Element.{Element}
-use Rattle.ts_cells.specs.Cell.{page_room}
-use Rattle.ts_cells.specs.IrregularPage.{AreElements, AreInOrder, irregular_page, first_stamp}
+use Rattle.ts_row.specs.Row.{Element}
+use Rattle.ts_cells.specs.IrregularPage.{page_room, AreElements, AreInOrder, irregular_page, first_stamp}
 use Rattle.ts_irregular.specs.OnePage.{IsOn, IsPlace, place_of}
 use Rattle.ts_sheets.specs.Places.{ArePlaces, CanBeFreed, IsBeginning, IsCounted}
 use Rattle.ts_chain.specs.Call.{AreFreed}

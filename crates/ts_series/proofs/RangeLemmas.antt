@@ -5,14 +5,11 @@ use Rattle.std.proofs.lemmas.Int.{by_lt_z, ints}
 use Rattle.std.proofs.lemmas.List.Elements.{filter-append}
 use Rattle.std.proofs.lemmas.List.Filters.{length-filter_both}
 use Rattle.ts_row.specs.declared.kind.Column.{Column}
-use Rattle.ts_row.specs.Element.{Element}
-use Rattle.ts_cells.specs.Cell.{IsElement}
-use Rattle.ts_cells.specs.IrregularPage.{AreElements, AreRising, AreInOrder, first_stamp}
+use Rattle.ts_row.specs.Row.{Element}
+use Rattle.ts_cells.specs.IrregularPage.{IsElement, AreElements, AreRising, AreInOrder, first_stamp}
 use Rattle.ts_irregular.specs.Edit.{element_at, rank_of, search_of}
 use Rattle.ts_irregular.proofs.EditLemmas.{int_lt_yes, int_lt_no}
-use Rattle.ts_sheets.specs.Chain.{AreEarlier, AreLater}
-use Rattle.ts_sheets.specs.Placing.{earlier}
-use Rattle.ts_sheets.specs.Range.{is_within, within_range, without_range}
+use Rattle.ts_sheets.specs.Stamped.{AreEarlier, AreLater, earlier, is_within, within_range, without_range}
 use Rattle.ts_sheets.proofs.OrderLemmas.{later_than, later_of, rising_of, rising_tail}
 use Rattle.ts_chain.proofs.EditLemmas.{at_lower, at_higher, at_same, none_later}
 use Rattle.ts_series.specs.Ends.{later}

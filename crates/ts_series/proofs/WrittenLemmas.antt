@@ -11,13 +11,10 @@ use Rattle.ts_space.specs.Place.{AreAbove, IsRising, count_of, pages_of}
 use Rattle.ts_space.specs.Moved.{list_of, moved_to}
 use Rattle.ts_page.specs.Pages.{Contents, EqualPages}
 use Rattle.ts_row.specs.declared.kind.Column.{Column}
-use Rattle.ts_row.specs.Element.{Element}
-use Rattle.ts_cells.specs.Cell.{page_room}
-use Rattle.ts_cells.specs.IrregularPage.{AreElements, AreRising, AreInOrder}
-use Rattle.ts_sheets.specs.Chain.{all_in, AreBefore, AreLater, ArePages, IsChain}
+use Rattle.ts_row.specs.Row.{Element}
+use Rattle.ts_cells.specs.IrregularPage.{page_room, AreElements, AreRising, AreInOrder}
+use Rattle.ts_sheets.specs.Stamped.{all_in, AreBefore, AreLater, ArePages, IsChain, earlier, within_range, without_range}
 use Rattle.ts_sheets.specs.Places.{AreChained, ArePlaces, AreMoved, IsCounted}
-use Rattle.ts_sheets.specs.Placing.{earlier}
-use Rattle.ts_sheets.specs.Range.{within_range, without_range}
 use Rattle.ts_chain.specs.Call.{AreWritten}
 use Rattle.ts_sheets.proofs.OrderLemmas.{all_in-append, pages_in_order}
 use Rattle.ts_irregular.proofs.EditLemmas.{int_lt_yes, int_lt_no}

@@ -7,9 +7,8 @@ use Rattle.ts_space.specs.Moved.{moved_to}
 use Rattle.ts_page.specs.Pages.{Contents}
 use Rattle.ts_row.specs.declared.kind.Column.{Column}
 use Rattle.ts_irregular.specs.Call.{Stays}
-use Rattle.ts_sheets.specs.Chain.{all_in}
+use Rattle.ts_sheets.specs.Stamped.{all_in, within_range, without_range}
 use Rattle.ts_sheets.specs.Places.{AreMoved}
-use Rattle.ts_sheets.specs.Range.{within_range, without_range}
 use Rattle.ts_chain.specs.Call.{IsTold, AreWritten}
 
 -- so many elements from one stamp to another are taken away, and the places become these

@@ -10,15 +10,13 @@ use Rattle.ts_space.specs.Charge.{irregular_charge}
 use Rattle.ts_base.specs.declared.fault.StoreFault.{StoreFault}
 use Rattle.ts_page.specs.Pages.{Contents, Answered}
 use Rattle.ts_row.specs.declared.kind.Column.{Column}
-use Rattle.ts_row.specs.Row.{Row}
-use Rattle.ts_row.specs.Element.{Element}
-use Rattle.ts_cells.specs.Cell.{page_room}
+use Rattle.ts_row.specs.Row.{Row, Element}
+use Rattle.ts_cells.specs.IrregularPage.{page_room}
 use Rattle.ts_irregular.specs.Edit.{element_at, with_element}
 use Rattle.ts_irregular.specs.Call.{Stays}
-use Rattle.ts_sheets.specs.Chain.{all_in}
+use Rattle.ts_sheets.specs.Stamped.{all_in, place_for}
 use Rattle.ts_sheets.specs.Places.{AreMoved}
-use Rattle.ts_sheets.specs.Placing.{place_for}
-pub use Rattle.ts_sheets.specs.Placing.{placed}
+pub use Rattle.ts_sheets.specs.Stamped.{placed}
 use Rattle.ts_chain.specs.Call.{IsTold, AreWritten}
 use Rattle.ts_series.specs.declared.edits.EditKind.{EditKind}
 use Rattle.ts_series.specs.declared.edits.EditKind.TheVariants.{Put, PutNoDups, Insert, Update}

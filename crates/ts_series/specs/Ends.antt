@@ -8,11 +8,10 @@ use Rattle.ts_space.specs.declared.moved.Come.TheVariants.{Nothing, One, Two}
 use Rattle.ts_space.specs.Place.{AreAbove, IsRising, pages_of}
 use Rattle.ts_page.specs.Pages.{Contents}
 use Rattle.ts_row.specs.declared.kind.Column.{Column}
-use Rattle.ts_row.specs.Element.{Element}
+use Rattle.ts_row.specs.Row.{Element}
 use Rattle.ts_cells.specs.IrregularPage.{irregular_page, first_stamp}
-use Rattle.ts_sheets.specs.Chain.{all_in, ArePages}
+use Rattle.ts_sheets.specs.Stamped.{all_in, ArePages, earlier}
 use Rattle.ts_sheets.specs.Places.{CanBeFreed, AreChained, IsCounted}
-use Rattle.ts_sheets.specs.Placing.{earlier}
 use Rattle.ts_series.specs.declared.joins.Joins.{Joins}
 
 -- the elements that are later than a stamp

@@ -1,12 +1,11 @@
 // The pages at the two ends of a range, of which the elements before it and behind it are kept.
 ghost use Rattle.std.specs.Prelude.{◌≡◌, ◌+◌, ◌≤◌, ◌≤ℤ◌, IsTrue, IfOk, List, length, take, drop};
 ghost use Rattle.ts_space.specs.Place.{count_of};
-ghost use Rattle.ts_row.specs.Element.{Element};
-ghost use Rattle.ts_cells.specs.Cell.{page_room};
-ghost use Rattle.ts_cells.specs.IrregularPage.{AreInOrder, behind_head};
+ghost use Rattle.ts_row.specs.Row.{Element};
+ghost use Rattle.ts_cells.specs.IrregularPage.{page_room, AreInOrder, behind_head};
 ghost use Rattle.ts_irregular.specs.OnePage.{IsOn};
 ghost use Rattle.ts_irregular.specs.Call.{Reads};
-ghost use Rattle.ts_sheets.specs.Placing.{earlier};
+ghost use Rattle.ts_sheets.specs.Stamped.{earlier};
 ghost use Rattle.ts_sheets.specs.Places.{CanBeRead};
 ghost use Rattle.ts_series.specs.Ends.{later, EndsAt, OthersAreAbove, HasElements, AreEnds, AreEndsOf};
 ghost use Rattle.std.specs.Prelude.{All};

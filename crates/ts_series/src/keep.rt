@@ -3,11 +3,10 @@ ghost use Rattle.std.specs.Prelude.{◌≡◌, ◌+◌, ◌*◌, ◌^◌, ◌<�
 ghost use Rattle.ts_space.specs.Place.{IsRising, count_of};
 ghost use Rattle.ts_space.specs.Moved.{list_of};
 ghost use Rattle.ts_page.specs.Pages.{Answered};
-ghost use Rattle.ts_row.specs.Element.{Element};
-ghost use Rattle.ts_cells.specs.Cell.{page_room};
-ghost use Rattle.ts_cells.specs.IrregularPage.{AreInOrder, AreElements};
+ghost use Rattle.ts_row.specs.Row.{Element};
+ghost use Rattle.ts_cells.specs.IrregularPage.{page_room, AreInOrder, AreElements};
 ghost use Rattle.ts_irregular.specs.Call.{Reads};
-ghost use Rattle.ts_sheets.specs.Chain.{all_in};
+ghost use Rattle.ts_sheets.specs.Stamped.{all_in};
 ghost use Rattle.ts_sheets.specs.Places.{AreChained, ArePlaces};
 ghost use Rattle.ts_series.specs.Ends.{HasElements, AreParts, AreKept, pieces, HasShape, CanBegin};
 

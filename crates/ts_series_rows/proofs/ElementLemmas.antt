@@ -9,26 +9,21 @@ use Rattle.ts_base.specs.Answer.{Answers, within_rows}
 use Rattle.ts_command.specs.declared.command.Command.TheVariants.{Apply}
 use Rattle.ts_row.specs.declared.kind.ColumnKind.{ColumnKind}
 use Rattle.ts_row.specs.declared.kind.Column.{Column}
-use Rattle.ts_row.specs.RowType.{Heading}
-use Rattle.ts_row.specs.Element.{Element}
+use Rattle.ts_row.specs.Row.{Heading, Element}
 use Rattle.ts_space.specs.Directory.{places_of}
-use Rattle.ts_sheets.specs.Range.{within_range}
+use Rattle.ts_sheets.specs.Stamped.{within_range}
 use Rattle.ts_offset.specs.declared.shape.Shape.{Shape}
 use Rattle.ts_expr.specs.declared.function.Function.{Function}
 use Rattle.ts_expr.specs.declared.function.Function.TheVariants.{Sum, Avg, Count, Min, Max, First, Last}
 use Rattle.ts_expr.specs.declared.item.BoundItem.{BoundItem}
-use Rattle.ts_expr.specs.Grammar.{item}
-use Rattle.ts_expr.specs.Binding.{column_from, takes_kind, bound_item, bound_to, bound}
+use Rattle.ts_expr.specs.Aggregates.{item, column_from, takes_kind, bound_item, bound_to, bound}
 use Rattle.ts_clip.specs.Series.{IsTold}
 use Rattle.ts_offset.specs.Shape.{IsLaidOut}
 use Rattle.ts_entry.specs.Handed.{AreHanded}
-use Rattle.ts_running.specs.ColumnText.{read_column}
-use Rattle.ts_running.specs.Grammar.{Named, read_exprs}
-use Rattle.ts_running.specs.Binding.{Sourced, binding, part_scales}
-use Rattle.ts_running.specs.Parts.{made_of_all}
+use Rattle.ts_running.specs.Grammar.{read_column, Named, read_exprs}
+use Rattle.ts_running.specs.Binding.{Sourced, binding, part_scales, made_of_all}
 use Rattle.ts_running.specs.Places.{is_running}
-use Rattle.ts_running.specs.Rows.{running, scales_of, applied_rows}
-use Rattle.ts_running.specs.Window.{Window, window}
+use Rattle.ts_running.specs.Rows.{running, scales_of, applied_rows, Window, window}
 use Rattle.ts_running_rows.specs.Call.{rows_by, rows_within}
 use Rattle.ts_running_rows.specs.Run.{Begins}
 use Rattle.ts_model.specs.Catalogue.{Series, Catalogue, columns_of}

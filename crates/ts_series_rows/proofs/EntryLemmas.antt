@@ -6,12 +6,10 @@ use Rattle.ts_base.specs.declared.refusal.Refusal.{Refusal}
 use Rattle.ts_base.specs.declared.fault.Trouble.{Trouble}
 use Rattle.ts_command.specs.declared.command.Command.TheVariants.{ClipGetCount}
 use Rattle.ts_row.specs.declared.kind.Column.{Column}
-use Rattle.ts_row.specs.RowType.{Heading}
-use Rattle.ts_row.specs.Element.{Element, has_hidden}
+use Rattle.ts_row.specs.Row.{Heading, Element, has_hidden}
 use Rattle.ts_space.specs.Directory.{places_of}
 use Rattle.ts_offset.specs.declared.shape.Shape.{Shape}
-use Rattle.ts_entry.specs.Entry.{Entry, AreTaken}
-use Rattle.ts_entry.specs.Reading.{reading, clipped}
+use Rattle.ts_entry.specs.Entry.{Entry, AreTaken, reading, clipped}
 use Rattle.ts_clip.specs.Call.{IsRead, IsShown}
 use Rattle.ts_clip.specs.Series.{IsTold}
 use Rattle.ts_offset.specs.Shape.{IsLaidOut}

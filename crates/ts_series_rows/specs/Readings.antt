@@ -1,8 +1,7 @@
 -- Which entries of a reading are chosen, and the command that says them.
 use Rattle.std.specs.Prelude.{ℕ, unsigned_abs, Result, Ok, List}
 use Rattle.ts_base.specs.declared.refusal.Refusal.{Refusal}
-use Rattle.ts_entry.specs.Entry.{Entry}
-use Rattle.ts_entry.specs.Reading.{clipped, counted, entry_number}
+use Rattle.ts_entry.specs.Entry.{Entry, clipped, counted, entry_number}
 use Rattle.ts_base.specs.Answer.{within_rows}
 use Rattle.ts_command.specs.declared.command.Command.{Command}
 use Rattle.ts_command.specs.declared.command.Command.TheVariants.{GetNthElem, Clip, ClipCount}

@@ -3,7 +3,7 @@ ghost use Rattle.std.specs.Prelude.{◌≡◌, ◌<◌, [], IfOk};
 ghost use Rattle.ts_command.specs.declared.command.Command.TheVariants.{ClipGetCount};
 ghost use Rattle.ts_space.specs.Directory.{places_of};
 ghost use Rattle.ts_irregular.specs.Call.{Reads};
-ghost use Rattle.ts_entry.specs.Reading.{reading};
+ghost use Rattle.ts_entry.specs.Entry.{reading};
 ghost use Rattle.ts_clip.specs.Call.{IsRead, IsShown};
 ghost use Rattle.ts_clip.specs.Series.{ArePlaces, IsTold};
 ghost use Rattle.ts_offset.specs.Shape.{IsLaidOut};

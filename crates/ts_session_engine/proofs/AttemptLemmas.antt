@@ -12,9 +12,8 @@ use Rattle.ts_journal.proofs.CallerLemmas.{keeps_then}
 use Rattle.ts_store.proofs.CallerLemmas.{reads_none, reads_then}
 use Rattle.ts_model.specs.Catalogue.{Catalogue}
 use Rattle.ts_volume.specs.Volume.{MeansCatalogue}
-use Rattle.ts_answer.specs.Refusals.{Tried}
-use Rattle.ts_answer.specs.Reply.{ok_line}
-use Rattle.ts_answer.specs.State.{State, resting, opened}
+use Rattle.ts_answer.specs.Reply.{Tried, ok_line}
+use Rattle.ts_answer.specs.Answer.{State, resting, opened}
 use Rattle.ts_answer.proofs.CallerLemmas.{opened_outside, rolled_back_inside}
 use Rattle.ts_sessions.specs.Machine.{replayed}
 use Rattle.ts_views.specs.declared.view.View.{View}

@@ -5,8 +5,7 @@ use Rattle.ts_command.specs.declared.command.Command.TheVariants as commands
 use Rattle.ts_disk.specs.Device.{Device, Lawful, Rose, LeavesOnly}
 use Rattle.ts_disk.proofs.Moments.{leaves_map, then_on}
 use Rattle.ts_page.specs.Pages.{SameButFreed}
-use Rattle.ts_journal.specs.Entry.{over}
-use Rattle.ts_journal.specs.Journal.{own_page}
+use Rattle.ts_journal.specs.Journal.{over, own_page}
 use Rattle.ts_journal.specs.Moment.{OnlyReads}
 use Rattle.ts_journal.proofs.CallerLemmas.{keeps_then}
 use Rattle.ts_store.specs.OpenBatch.{State as Store, committed_pages, read_pages}
@@ -14,7 +13,7 @@ use Rattle.ts_store.proofs.CallerLemmas.{reads_then}
 use Rattle.ts_model.specs.Catalogue.{Catalogue}
 use Rattle.ts_volume.specs.Volume.{MeansCatalogue}
 use Rattle.ts_answer.specs.Reply.{number_line}
-use Rattle.ts_answer.specs.State.{State, resting, opened, run_answer}
+use Rattle.ts_answer.specs.Answer.{State, resting, opened, run_answer}
 use Rattle.ts_answer.proofs.CallerLemmas.{committed_inside}
 use Rattle.ts_views.specs.declared.view.View.{View}
 use Rattle.ts_engine.specs.declared.fault.StepFault.{StepFault}

@@ -8,7 +8,7 @@ use Rattle.std.proofs.lemmas.Bool.{cond-false, cases_eq, ne_eqb}
 use Rattle.std.proofs.lemmas.List.{get_or_append_left, get_or-append-add}
 use Rattle.ts_page.specs.declared.page.Page.{Page}
 use Rattle.ts_journal.specs.declared.batch.Change.TheVariants.{Free}
-use Rattle.ts_journal.specs.Entry.{Entry, change_of}
+use Rattle.ts_journal.specs.Journal.{Entry, change_of}
 use Rattle.ts_store.specs.OpenBatch.{State as Store}
 use Rattle.ts_views.specs.declared.view.View.{View}
 use Rattle.ts_views.specs.Pages.{view_pages}

@@ -6,8 +6,7 @@ use Rattle.ts_base.specs.declared.fault.StoreFault.TheVariants.{Failed as StoreF
 use Rattle.ts_command.specs.declared.command.Command.{Command}
 use Rattle.ts_disk.specs.Device.{Device, Rose}
 use Rattle.ts_page.specs.Pages.{Contents}
-use Rattle.ts_journal.specs.Entry.{entries_bytes, is_image, change_of, over}
-use Rattle.ts_journal.specs.Journal.{own_page}
+use Rattle.ts_journal.specs.Journal.{entries_bytes, is_image, change_of, over, own_page}
 use Rattle.ts_journal.specs.Moment.{OnlyReads}
 use Rattle.ts_store.specs.OpenBatch.{State as Store, AreInPlace, IsOver, committed_pages, read_pages, contents_over}
 use Rattle.ts_store.specs.Undisturbed.{Undisturbed}

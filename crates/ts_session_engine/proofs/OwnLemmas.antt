@@ -4,11 +4,11 @@ use Rattle.std.proofs.Common.{◌≡◌, ◌⊎◌, inl, inr, ℕ, Bool, true, f
 use Rattle.std.proofs.lemmas.List.{take-append-le, take_all}
 use Rattle.ts_base.specs.declared.refusal.Refusal.{Refusal}
 use Rattle.ts_command.specs.declared.command.Command.{Command}
-use Rattle.ts_command.specs.Writing.{is_writing}
+use Rattle.ts_command.specs.Boundary.{is_writing}
 use Rattle.ts_disk.specs.Device.{Device, Lawful, Rose}
 use Rattle.ts_page.specs.Pages.{Contents, EqualPages}
 use Rattle.ts_page.proofs.PagesLemmas.{same_from_equal}
-use Rattle.ts_journal.specs.Entry.{Entry, change_of, changed, over}
+use Rattle.ts_journal.specs.Journal.{Entry, change_of, changed, over}
 use Rattle.ts_store.specs.OpenBatch.{State as Store, committed_pages, read_pages, contents_over}
 use Rattle.ts_store.specs.Undisturbed.{Undisturbed}
 use Rattle.ts_store.proofs.CallerLemmas.{rolled_back_closed}

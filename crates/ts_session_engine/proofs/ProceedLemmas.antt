@@ -2,15 +2,14 @@
 use Rattle.std.proofs.Common.{◌≡◌, ℕ, Bool, IsTrue, Option, Some, None, IfSome, Result, Ok, Err, List, [], ap, sym, ◌∙◌, subst, arith}
 use Rattle.std.specs.Option.{option_map}
 use Rattle.ts_disk.specs.Device.{Device, Within}
-use Rattle.ts_journal.specs.Entry.{over}
-use Rattle.ts_journal.specs.Journal.{StandsOver}
+use Rattle.ts_journal.specs.Journal.{over, StandsOver}
 use Rattle.ts_journal.proofs.CallerLemmas.{over_pages}
 use Rattle.ts_store.specs.OpenBatch.{State as Store, IsIdle, committed_pages, read_pages, contents_over}
 use Rattle.ts_store.specs.OpenBatch.{rolled_back as store_rolled_back}
 use Rattle.ts_store.proofs.CallerLemmas.{over_kept}
 use Rattle.ts_layout.specs.Meaning.{HoldsLayout, Means}
 use Rattle.ts_answer.specs.View.{IsSeen}
-use Rattle.ts_answer.specs.State.{State, newest}
+use Rattle.ts_answer.specs.Answer.{State, newest}
 use Rattle.ts_volume.specs.Volume.{MeansCatalogue}
 use Rattle.ts_engine.specs.declared.fault.StepFault.{StepFault}
 use Rattle.ts_engine.specs.declared.fault.StepFault.TheVariants.{Disk, Memory, Closed}

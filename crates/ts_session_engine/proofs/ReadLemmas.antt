@@ -4,10 +4,10 @@ use Rattle.std.proofs.Common.{◌≡◌, ℕ, Bool, true, false, if◌then◌els
 use Rattle.std.proofs.lemmas.List.{reverse-reverse}
 use Rattle.ts_command.specs.declared.command.Command.{Command}
 use Rattle.ts_command.specs.declared.command.Command.TheVariants as commands
-use Rattle.ts_command.specs.Writing.{is_writing}
+use Rattle.ts_command.specs.Boundary.{is_writing}
 use Rattle.ts_disk.specs.Device.{Device}
 use Rattle.ts_page.specs.Pages.{Contents}
-use Rattle.ts_journal.specs.Entry.{Entry}
+use Rattle.ts_journal.specs.Journal.{Entry}
 use Rattle.ts_store.specs.OpenBatch.{contents_over}
 use Rattle.ts_answer.specs.declared.effect.Effect.TheVariants.{Nothing}
 use Rattle.ts_answer.specs.declared.stop.Stop.{Stop}

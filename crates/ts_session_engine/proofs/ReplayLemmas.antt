@@ -6,8 +6,7 @@ use Rattle.std.proofs.lemmas.Bool.{lt-leb}
 use Rattle.ts_base.specs.declared.refusal.Refusal.{Refusal}
 use Rattle.ts_base.specs.declared.refusal.Refusal.TheVariants.{TransactionFull}
 use Rattle.ts_command.specs.declared.command.Command.{Command}
-use Rattle.ts_command.specs.Boundary.{boundary_of, is_between}
-use Rattle.ts_command.specs.Writing.{is_writing}
+use Rattle.ts_command.specs.Boundary.{boundary_of, is_between, is_writing}
 use Rattle.ts_disk.specs.Device.{Device, Lawful, Rose}
 use Rattle.ts_page.specs.Pages.{Contents}
 use Rattle.ts_journal.specs.Moment.{OnlyReads}
@@ -17,9 +16,8 @@ use Rattle.ts_model.specs.Catalogue.{Catalogue}
 use Rattle.ts_layout.specs.Meaning.{catalogue_of}
 use Rattle.ts_answer.specs.declared.effect.Effect.{Effect}
 use Rattle.ts_answer.specs.CarriedOut.{CarriedOut, Comes}
-use Rattle.ts_answer.specs.Answer.{Answered, Tried, ◌>>=◌, outcome}
+use Rattle.ts_answer.specs.Answer.{Answered, Tried, ◌>>=◌, outcome, State, opened, counted}
 use Rattle.ts_answer.specs.Reply.{refusal_line}
-use Rattle.ts_answer.specs.State.{State, opened, counted}
 use Rattle.ts_answer.specs.View.{view}
 use Rattle.ts_sessions.specs.Machine.{replayed}
 use Rattle.ts_engine.specs.declared.fault.StepFault.{StepFault}

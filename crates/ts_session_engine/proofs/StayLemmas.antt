@@ -4,8 +4,7 @@ use Rattle.ts_disk.specs.Device.{Device}
 use Rattle.ts_page.specs.Pages.{Contents, EqualPages, SameButFreed}
 use Rattle.ts_page.proofs.PagesLemmas.{same_trans, same_from_equal}
 use Rattle.ts_space.specs.Directory.{Directory}
-use Rattle.ts_journal.specs.Entry.{Entry, change_of, changed, over}
-use Rattle.ts_journal.specs.Journal.{own_page}
+use Rattle.ts_journal.specs.Journal.{Entry, change_of, changed, over, own_page}
 use Rattle.ts_store.specs.OpenBatch.{State as Store, committed_pages, read_pages, contents_over}
 use Rattle.ts_store.specs.OpenBatch.{rolled_back as store_rolled_back}
 use Rattle.ts_layout.proofs.CallerLemmas.{kept_alike}

@@ -3,7 +3,7 @@ use Rattle.std.proofs.Common.{◌≡◌, ◌≢◌, ℕ, ◌+◌, Bool, true, if
 use Rattle.std.proofs.lemmas.List.Sorted.{All-permutation, IsPermutation-sym}
 use Rattle.ts_base.specs.declared.refusal.Refusal.{Refusal}
 use Rattle.ts_command.specs.declared.command.Command.{Command}
-use Rattle.ts_command.specs.Writing.{is_writing}
+use Rattle.ts_command.specs.Boundary.{is_writing}
 use Rattle.ts_page.specs.Pages.{Contents, EqualPages, IsLawful, IsFreePage}
 use Rattle.ts_page.proofs.PagesLemmas.{same_from_equal}
 use Rattle.ts_space.specs.declared.place.Place.{Place}
@@ -16,9 +16,8 @@ use Rattle.ts_layout.proofs.CallerLemmas.{free_at, kept_alike, pairs_front, same
 use Rattle.ts_volume.proofs.CallerLemmas.{holds_still}
 use Rattle.ts_answer.specs.declared.effect.Effect.{Effect}
 use Rattle.ts_answer.specs.declared.effect.Effect.TheVariants.{Nothing, Pages, Slot, Places, Series, Whole}
-use Rattle.ts_answer.specs.Refusals.{Answered, Tried}
+use Rattle.ts_answer.specs.Reply.{Answered, Tried, refusal_line}
 use Rattle.ts_answer.specs.Answer.{answer, outcome, settled}
-use Rattle.ts_answer.specs.Reply.{refusal_line}
 use Rattle.ts_answer.specs.CarriedOut.{CarriedOut, Comes, definitions_after, lists_after, is_nothing}
 use Rattle.ts_answer.specs.View.{View as Seen, view, IsSeen, Shows}
 use Rattle.ts_answer.proofs.CallerLemmas.{held_same}

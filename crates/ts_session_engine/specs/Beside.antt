@@ -3,7 +3,7 @@ use Rattle.std.specs.Prelude.{◌≡◌, ◌≢◌, ◌⊎◌, ℕ, Bool, IsTrue
 use Rattle.std.specs.Option.{IsSome}
 use Rattle.ts_disk.specs.Device.{Device}
 use Rattle.ts_page.specs.Pages.{Contents, EqualPages}
-use Rattle.ts_journal.specs.Entry.{change_of}
+use Rattle.ts_journal.specs.Journal.{change_of}
 use Rattle.ts_store.specs.OpenBatch.{State as Store, contents_over}
 use Rattle.ts_store.specs.OpenBatch.{rolled_back as store_rolled_back}
 use Rattle.ts_views.specs.declared.view.View.{View}

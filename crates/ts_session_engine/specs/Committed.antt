@@ -4,14 +4,12 @@ use Rattle.std.specs.Prelude.{OnOk, OnErr}
 use Rattle.std.specs.Prelude.{IsErr, List, [], All, length}
 use Rattle.ts_command.specs.declared.command.Command.{Command}
 use Rattle.ts_command.specs.Form.{HasForm}
-use Rattle.ts_command.specs.Boundary.{boundary_of}
-use Rattle.ts_command.specs.Writing.{is_writing}
+use Rattle.ts_command.specs.Boundary.{boundary_of, is_writing}
 use Rattle.ts_disk.specs.Device.{Device}
 use Rattle.ts_journal.specs.Moment.{OnlyReads}
 use Rattle.ts_model.specs.Catalogue.{Catalogue}
-use Rattle.ts_answer.specs.Refusals.{Tried}
-use Rattle.ts_answer.specs.Reply.{number_line, refusal_line}
-use Rattle.ts_answer.specs.State.{State, resting, committed, most_accepted}
+use Rattle.ts_answer.specs.Reply.{Tried, number_line, refusal_line}
+use Rattle.ts_answer.specs.Answer.{State, resting, committed, most_accepted}
 use Rattle.ts_sessions.specs.Machine.{replayed}
 use Rattle.ts_views.specs.declared.view.View.{View}
 use Rattle.ts_views.specs.View.{view_of, Turns}

@@ -2,7 +2,7 @@
 use Rattle.std.specs.Prelude.{◌≡◌, Bool, IsTrue, Some, Result, OnOk, IfErr}
 use Rattle.ts_disk.specs.Device.{Device, Rose, LeavesOnly}
 use Rattle.ts_journal.specs.Moment.{Keeps}
-use Rattle.ts_answer.specs.State.{State}
+use Rattle.ts_answer.specs.Answer.{State}
 use Rattle.ts_engine.specs.declared.fault.StepFault.{StepFault}
 use Rattle.ts_engine.specs.declared.fault.StepFault.TheVariants.{Disk, Memory, Closed}
 use Rattle.ts_engine.specs.Engine.{Kept, IsReady, IsAt}

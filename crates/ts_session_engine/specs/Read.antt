@@ -3,7 +3,7 @@ use Rattle.std.specs.Prelude.{◌≡◌, ℕ, Bool, IsTrue, Result, List, revers
 use Rattle.ts_command.specs.declared.command.Command.{Command}
 use Rattle.ts_disk.specs.Device.{Device}
 use Rattle.ts_page.specs.Pages.{EqualPages}
-use Rattle.ts_journal.specs.Entry.{Entry}
+use Rattle.ts_journal.specs.Journal.{Entry}
 use Rattle.ts_answer.specs.declared.stop.Stop.{Stop}
 use Rattle.ts_answer.specs.CarriedOut.{ReadOut}
 use Rattle.ts_store.specs.OpenBatch.{read_pages, contents_over}

@@ -8,9 +8,8 @@ use Rattle.ts_base.specs.declared.refusal.Refusal.{Refusal}
 use Rattle.ts_disk.specs.Device.{Device, Rose, LeavesOnly}
 use Rattle.ts_model.specs.Catalogue.{Catalogue}
 use Rattle.ts_journal.specs.Moment.{Keeps, OnlyReads}
-use Rattle.ts_answer.specs.Refusals.{Tried}
-use Rattle.ts_answer.specs.Reply.{number_line, refusal_line}
-use Rattle.ts_answer.specs.State.{State, resting, opened}
+use Rattle.ts_answer.specs.Reply.{Tried, number_line, refusal_line}
+use Rattle.ts_answer.specs.Answer.{State, resting, opened}
 use Rattle.ts_sessions.specs.Machine.{replayed}
 use Rattle.ts_views.specs.declared.view.View.{View}
 use Rattle.ts_engine.specs.declared.fault.StepFault.{StepFault}

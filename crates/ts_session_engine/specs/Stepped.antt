@@ -3,12 +3,12 @@ use Rattle.std.specs.Prelude.{◌≡◌, ◌⊎◌, ℕ, Bool, true, IsTrue, if�
 use Rattle.std.specs.Prelude.{IsErr}
 use Rattle.std.specs.Prelude.{List, [], ◌∷◌, ◌++◌}
 use Rattle.ts_command.specs.declared.command.Command.{Command}
-use Rattle.ts_command.specs.Writing.{is_writing}
+use Rattle.ts_command.specs.Boundary.{is_writing}
 use Rattle.ts_disk.specs.Device.{Device}
 use Rattle.ts_journal.specs.Moment.{OnlyReads}
 use Rattle.ts_page.specs.Pages.{Contents}
 use Rattle.ts_model.specs.Catalogue.{Catalogue}
-use Rattle.ts_answer.specs.Refusals.{Tried, Answered}
+use Rattle.ts_answer.specs.Reply.{Tried, Answered}
 use Rattle.ts_answer.specs.Answer.{answer, outcome}
 use Rattle.ts_views.specs.declared.view.View.{View}
 use Rattle.ts_views.specs.View.{view_of, Turns}

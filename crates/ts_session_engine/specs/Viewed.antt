@@ -2,10 +2,10 @@
 use Rattle.std.specs.Prelude.{◌≡◌, ℕ, Bool, true, false, IsTrue, if◌then◌else◌, Result, OnOk, OnErr, List, [], ◌∷◌}
 use Rattle.std.specs.Prelude.{◌++◌, reverse}
 use Rattle.ts_command.specs.declared.command.Command.{Command}
-use Rattle.ts_command.specs.Writing.{is_writing}
+use Rattle.ts_command.specs.Boundary.{is_writing}
 use Rattle.ts_disk.specs.Device.{Device}
 use Rattle.ts_page.specs.Pages.{EqualPages}
-use Rattle.ts_journal.specs.Entry.{Entry, over}
+use Rattle.ts_journal.specs.Journal.{Entry, over}
 use Rattle.ts_journal.specs.Moment.{OnlyReads}
 use Rattle.ts_answer.specs.declared.effect.Effect.{Effect}
 use Rattle.ts_answer.specs.declared.stop.Stop.{Stop}

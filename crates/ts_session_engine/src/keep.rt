@@ -2,8 +2,7 @@
 ghost use Rattle.std.specs.Prelude.{◌≡◌, ◌<◌, ◌*◌, OnOk, IsErrOf};
 ghost use Rattle.ts_base.specs.declared.fault.StoreFault.TheVariants.{Failed as StoreFailed};
 ghost use Rattle.ts_disk.specs.Device.{Rose};
-ghost use Rattle.ts_page.specs.Volume.{page_size};
-ghost use Rattle.ts_page.specs.Pages.{IsOutsideJournal};
+ghost use Rattle.ts_page.specs.Pages.{page_size, IsOutsideJournal};
 ghost use Rattle.ts_journal.specs.Moment.{OnlyReads};
 ghost use Rattle.ts_store.specs.OpenBatch.{committed_pages};
 ghost use Rattle.ts_views.specs.View.{HasImage, OfEachOpen};

@@ -1,9 +1,8 @@
 // The commands of a view are carried out again, in a transaction of the engine.
 ghost use Rattle.std.specs.Prelude.{◌≡◌, ◌<◌, ◌∷◌, [], ℕ, true, None, IfSome};
 ghost use Rattle.std.specs.Option.{IsSome};
-ghost use Rattle.ts_command.specs.Boundary.{boundary_of};
+ghost use Rattle.ts_command.specs.Boundary.{boundary_of, is_writing};
 ghost use Rattle.ts_command.specs.Form.{HasForm};
-ghost use Rattle.ts_command.specs.Writing.{is_writing};
 ghost use Rattle.ts_engine.specs.Engine.{IsReady};
 ghost use Rattle.ts_session_engine.specs.Committed.{AreCommands};
 ghost use Rattle.ts_session_engine.specs.Replayed.{IsOpenWith, Replays};

@@ -2,9 +2,8 @@
 ghost use Rattle.std.specs.Prelude.{◌≡◌, ◌<◌, ℕ, [], None, Some, true, false, Err, OnOk, OnErr, IfSome, IfOk, length};
 ghost use Rattle.std.specs.Prelude.{◌∷◌, ◌++◌};
 ghost use Rattle.std.specs.Option.{IsSome};
-ghost use Rattle.ts_command.specs.Boundary.{boundary_of};
+ghost use Rattle.ts_command.specs.Boundary.{boundary_of, is_writing};
 ghost use Rattle.ts_command.specs.Form.{HasForm};
-ghost use Rattle.ts_command.specs.Writing.{is_writing};
 ghost use Rattle.ts_container.specs.KeptCharges.{AreCharges};
 ghost use Rattle.ts_answer.specs.CarriedOut.{CanApply, is_nothing};
 ghost use Rattle.ts_effects.specs.Applied.{CanCharge};

@@ -8,16 +8,14 @@ use Rattle.ts_base.specs.declared.refusal.Refusal.TheVariants as refusals
 use Rattle.ts_command.specs.declared.command.Command.{Command}
 use Rattle.ts_command.specs.declared.boundary.Boundary.{Boundary}
 use Rattle.ts_command.specs.declared.boundary.Boundary.TheVariants.{Opens, Commits, RollsBack, Alone}
-use Rattle.ts_command.specs.Boundary.{boundary_of}
-use Rattle.ts_command.specs.Writing.{is_writing}
-use Rattle.ts_command.specs.Script.{Request}
+use Rattle.ts_command.specs.Boundary.{boundary_of, is_writing}
+use Rattle.ts_command.specs.Grammar.{Request}
 use Rattle.ts_model.specs.Catalogue.{Catalogue}
 use Rattle.ts_multi.specs.declared.object.Object.{Object}
 use Rattle.ts_multi.specs.Objects.{written, meets}
 use Rattle.ts_multi.specs.Touched.{objects}
 use Rattle.ts_answer.specs.Reply.{ok_line, number_line, refusal_line}
-use Rattle.ts_answer.specs.Answer.{Tried, Answered, outcome}
-use Rattle.ts_answer.specs.State.{State, resting, opened, committed, run_outcome, run_answer}
+use Rattle.ts_answer.specs.Answer.{Tried, Answered, outcome, State, resting, opened, committed, run_outcome, run_answer}
 use Rattle.ts_answer.proofs.CallerLemmas.{run_refused, run_came, misread_refused, outside_refused, outside_came, opened_outside, committed_outside, rolled_back_outside, opened_inside, committed_inside, rolled_back_inside}
 use Rattle.ts_answer_laws.specs.TransactionLaws.{said_to, behind}
 use Rattle.ts_sessions.specs.Machine.{Commit, Snapshot, Machine, start, latest, snapshot_at, behind_commits, carried, replayed, begun_at, seen, wrote_by, conflict, state_of}

@@ -6,13 +6,11 @@ use Rattle.ts_base.specs.declared.refusal.Refusal.{Refusal}
 use Rattle.ts_base.specs.declared.refusal.Refusal.TheVariants as refusals
 use Rattle.ts_command.specs.declared.command.Command.{Command}
 use Rattle.ts_command.specs.declared.boundary.Boundary.{Boundary}
-use Rattle.ts_command.specs.Boundary.{boundary_of}
-use Rattle.ts_command.specs.Writing.{is_writing}
-use Rattle.ts_command.specs.Script.{Request}
+use Rattle.ts_command.specs.Boundary.{boundary_of, is_writing}
+use Rattle.ts_command.specs.Grammar.{Request}
 use Rattle.ts_model.specs.Catalogue.{Catalogue}
 use Rattle.ts_answer.specs.Reply.{refusal_line}
-use Rattle.ts_answer.specs.Answer.{Tried, Answered, outcome}
-use Rattle.ts_answer.specs.State.{State, resting, opened, counted, run_outcome, run_answer}
+use Rattle.ts_answer.specs.Answer.{Tried, Answered, outcome, State, resting, opened, counted, run_outcome, run_answer}
 use Rattle.ts_answer.proofs.CallerLemmas.{run_refused, run_came, misread_refused, full_inside, refused_inside, came_inside}
 use Rattle.ts_answer_laws.specs.TransactionLaws.{IsPlain}
 use Rattle.ts_answer_laws.proofs.ReadingLemmas.{leaves}

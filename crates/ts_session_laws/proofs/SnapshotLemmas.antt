@@ -4,12 +4,11 @@ use Rattle.std.proofs.lemmas.Bool.Decides.{nat_tests, eqb_tells}
 use Rattle.std.proofs.lemmas.List.{get_or-set_same, length-set, take_all}
 use Rattle.ts_command.specs.declared.command.Command.TheVariants as commands
 use Rattle.ts_command.specs.declared.boundary.Boundary.TheVariants.{Opens}
-use Rattle.ts_command.specs.Script.{Request}
+use Rattle.ts_command.specs.Grammar.{Request}
 use Rattle.ts_model.specs.Catalogue.{Catalogue}
 use Rattle.ts_multi.specs.Schedule.{items_of}
 use Rattle.ts_answer.specs.Reply.{ok_line}
-use Rattle.ts_answer.specs.Answer.{Tried}
-use Rattle.ts_answer.specs.State.{State, resting, opened, run_outcome, run_answer}
+use Rattle.ts_answer.specs.Answer.{Tried, State, resting, opened, run_outcome, run_answer}
 use Rattle.ts_answer.proofs.CallerLemmas.{run_came, opened_outside}
 use Rattle.ts_answer_laws.specs.TransactionLaws.{IsPlain, said_to}
 use Rattle.ts_sessions.specs.Machine.{Snapshot, Machine, latest, snapshot_at, behind_commits, carried, seen}

@@ -3,10 +3,10 @@ use Rattle.std.specs.Prelude.{◌≡◌, ◌≢◌, ◌-◌, ◌<◌, ◌≤◌,
 use Rattle.ts_command.specs.declared.command.Command.TheVariants as commands
 use Rattle.ts_command.specs.declared.boundary.Boundary.TheVariants.{Alone}
 use Rattle.ts_command.specs.Boundary.{boundary_of}
-use Rattle.ts_command.specs.Script.{Request}
+use Rattle.ts_command.specs.Grammar.{Request}
 use Rattle.ts_model.specs.Catalogue.{Catalogue}
 use Rattle.ts_multi.specs.Schedule.{items_of}
-use Rattle.ts_answer.specs.State.{resting, committed, run_answer}
+use Rattle.ts_answer.specs.Answer.{resting, committed, run_answer}
 use Rattle.ts_answer_laws.specs.TransactionLaws.{IsPlain, said_to, behind}
 use Rattle.ts_sessions.specs.Machine.{Machine, start, latest, snapshot_at}
 use Rattle.ts_sessions.specs.Steps.{Turn, session_line, machine_answer}

@@ -1,7 +1,7 @@
 // What holds of sessions, in the words of a run that is alone.
 ghost use Rattle.std.specs.Prelude.{ℕ, List, ◌<◌, ◌≤◌};
 ghost use Rattle.std.specs.List.{AllByRecursion};
-ghost use Rattle.ts_command.specs.Script.{Request};
+ghost use Rattle.ts_command.specs.Grammar.{Request};
 ghost use Rattle.ts_model.specs.Catalogue.{Catalogue};
 ghost use Rattle.ts_session_laws.specs.Laws.{SnapshotsAreRuns, IsOfSessions, OneSessionIsARun};
 

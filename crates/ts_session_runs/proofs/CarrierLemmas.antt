@@ -4,7 +4,7 @@ use Rattle.ts_disk.specs.Device.{Device, Within}
 use Rattle.ts_page.specs.Pages.{Contents}
 use Rattle.ts_store.specs.OpenBatch.{contents_over}
 use Rattle.ts_store.specs.OpenBatch.{rolled_back as store_rolled_back}
-use Rattle.ts_answer.specs.State.{resting}
+use Rattle.ts_answer.specs.Answer.{resting}
 use Rattle.ts_volume.specs.Volume.{MeansCatalogue}
 use Rattle.ts_sessions.specs.Machine.{Machine, latest, snapshot_at}
 use Rattle.ts_sessions.proofs.CallerLemmas.{told_apart}

@@ -4,7 +4,7 @@ use Rattle.std.proofs.lemmas.List.{append-nil}
 use Rattle.std.proofs.Math.Seq.{drop-cons}
 use Rattle.ts_disk.specs.Device.{Device, Lawful}
 use Rattle.ts_items.specs.Items.{Item}
-use Rattle.ts_command.specs.Script.{request_of}
+use Rattle.ts_command.specs.Grammar.{request_of}
 use Rattle.ts_multi.specs.Schedule.{next_session, order}
 use Rattle.ts_sessions.specs.Steps.{Turn}
 use Rattle.ts_carriers.specs.declared.fault.RunFault.{RunFault}

@@ -3,7 +3,7 @@ use Rattle.std.proofs.Common.{◌≡◌, inl, inr, ℕ, Bool, Result, Ok, Err, L
 use Rattle.std.proofs.lemmas.List.{append-nil}
 use Rattle.ts_disk.specs.Device.{Device, Lawful}
 use Rattle.ts_items.specs.Items.{items_to_end}
-use Rattle.ts_command.specs.Script.{Request}
+use Rattle.ts_command.specs.Grammar.{Request}
 use Rattle.ts_replies.proofs.Steps.{none_good}
 use Rattle.ts_store.proofs.CallerLemmas.{reads_none}
 use Rattle.ts_sessions.specs.Machine.{start}

@@ -3,7 +3,7 @@ use Rattle.std.proofs.Common.{◌≡◌, ℕ, zero, suc, Bool, false, Option, No
 use Rattle.std.specs.Option.{option_map}
 use Rattle.ts_disk.specs.Device.{Device}
 use Rattle.ts_model.specs.Catalogue.{Catalogue}
-use Rattle.ts_answer.specs.State.{resting}
+use Rattle.ts_answer.specs.Answer.{resting}
 use Rattle.ts_multi.specs.Log.{Pending}
 use Rattle.ts_multi.specs.Log.{start as start_log}
 use Rattle.ts_sessions.specs.Machine.{Snapshot, snapshot_at, start}

@@ -11,8 +11,8 @@ use Rattle.ts_disk.specs.Device.{Device, Lawful, LeavesOnly}
 use Rattle.ts_disk.proofs.Moments.{leaves_map}
 use Rattle.ts_command.specs.declared.command.Command.{Command}
 use Rattle.ts_command.specs.Misfit.{IsCause}
-use Rattle.ts_command.specs.Script.{Request, or_syntax}
-use Rattle.ts_replies.specs.Acknowledged.{IsStep, memory_line}
+use Rattle.ts_command.specs.Grammar.{Request, or_syntax}
+use Rattle.ts_replies.specs.Acknowledged.{IsStep, memory_line, IsGoodMoment}
 use Rattle.ts_replies.proofs.Steps.{none_good, one_waits}
 use Rattle.ts_volume.specs.Volume.{MeansCatalogue}
 use Rattle.ts_answer.specs.Reply.{refusal_line}
@@ -22,7 +22,6 @@ use Rattle.ts_session_turns.specs.Faults as faults
 use Rattle.ts_carriers.specs.declared.fault.RunFault.{RunFault}
 use Rattle.ts_carriers.specs.declared.fault.RunFault.TheVariants.{Disk, Output}
 use Rattle.ts_carriers.specs.Run.{Ran, SaysReply}
-use Rattle.ts_replies.specs.Good.{IsGoodMoment}
 use Rattle.ts_carriers.proofs.CallerLemmas.{answered_line, answered_ran, Steps, Waits}
 use Rattle.ts_session_turns.specs.Hand.{Hand, IsHandReady}
 use Rattle.ts_session_turns.specs.Turned.{BeforeOrBehind, Turned}

@@ -1,6 +1,6 @@
 -- Sessions as what carries their turns out: when they can go on, and when they stand at a machine.
 use Rattle.std.specs.Prelude.{ℕ, ◌+◌, Bool}
-use Rattle.ts_command.specs.Script.{Request}
+use Rattle.ts_command.specs.Grammar.{Request}
 use Rattle.ts_replies.specs.Acknowledged.{Protocol}
 use Rattle.ts_volume.specs.Volume.{MeansCatalogue}
 use Rattle.ts_sessions.specs.Machine.{Machine}

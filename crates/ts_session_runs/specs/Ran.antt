@@ -3,11 +3,11 @@ use Rattle.std.specs.Prelude.{◌≡◌, ◌≢◌, ◌⊎◌, ℕ, ◌≤◌, B
 use Rattle.ts_disk.specs.Device.{Device, Rose, LeavesOnly}
 use Rattle.ts_journal.specs.Moment.{OnlyReads}
 use Rattle.ts_model.specs.Catalogue.{Catalogue}
-use Rattle.ts_answer.specs.State.{resting}
+use Rattle.ts_answer.specs.Answer.{resting}
 use Rattle.ts_sessions.specs.Machine.{start}
 use Rattle.ts_sessions.specs.Steps.{Turn}
 use Rattle.ts_replies.specs.Said.{SaysFairly, AllDone}
-use Rattle.ts_replies.specs.Good.{IsGoodMoment}
+use Rattle.ts_replies.specs.Acknowledged.{IsGoodMoment}
 use Rattle.ts_session_turns.specs.Engine.{Kept, IsAt}
 use Rattle.ts_session_runs.specs.Carrier.{sessions}
 

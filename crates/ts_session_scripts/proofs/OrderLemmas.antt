@@ -3,7 +3,7 @@ use Rattle.std.proofs.Common.{◌≡◌, ℕ, zero, suc, ◌+◌, ◌<◌, Optio
 use Rattle.std.specs.Prelude.{option_and_then, slice_index_or, slice_set}
 use Rattle.std.proofs.lemmas.List.{length-map, map-set}
 use Rattle.ts_items.specs.Items.{Item}
-use Rattle.ts_command.specs.Script.{Request, request_of}
+use Rattle.ts_command.specs.Grammar.{Request, request_of}
 use Rattle.ts_multi.specs.Schedule.{first_of, next_session, order, total, turn}
 use Rattle.ts_session_scripts.specs.Script.{requests_left}
 

@@ -1,7 +1,7 @@
 -- What the scripts of sessions ask for.
 use Rattle.std.specs.Prelude.{List, map}
 use Rattle.ts_items.specs.Items.{Item}
-use Rattle.ts_command.specs.Script.{Request, request_of}
+use Rattle.ts_command.specs.Grammar.{Request, request_of}
 
 -- what the items ask for that are left of each script
 abbrev pub requests_left : List (List Item) → List (List Request)

@@ -6,7 +6,7 @@ use Rattle.std.proofs.lemmas.List.{length-map}
 use Rattle.std.proofs.lemmas.List.Sums.{sum_by-cons}
 use Rattle.std.specs.List.{concat, sum_by}
 use Rattle.ts_items.specs.Items.{items_to_end}
-use Rattle.ts_command.specs.Script.{request_of}
+use Rattle.ts_command.specs.Grammar.{request_of}
 use Rattle.ts_multi.specs.Sections.{onto, lines, is_mark, sections_of, sections}
 use Rattle.ts_multi.specs.Picks.{drawn, picks_of}
 use Rattle.ts_multi.specs.Schedule.{total}

@@ -1,11 +1,10 @@
 -- Sessions behind an opening.
 use Rattle.std.proofs.Common.{◌≡◌, ◌⊎◌, inl, inr, ⊎_elim, ℕ, ◌≤◌, Bool, true, IsTrue, List, [], ◌++◌, length, Ok, Err, refl, sym, ◌∙◌, ap, subst, arith}
-use Rattle.ts_disk.specs.Device.{Device, FirstSync, LeavesOnly}
-use Rattle.ts_disk.specs.Input.{Input}
+use Rattle.ts_disk.specs.Device.{Device, FirstSync, LeavesOnly, Input}
 use Rattle.ts_disk.proofs.Moments.{first_map, leaves_map}
 use Rattle.ts_model.specs.Catalogue.{Catalogue}
 use Rattle.ts_multi.specs.Sections.{sections}
-use Rattle.ts_replies.specs.Acknowledged.{TellsApart}
+use Rattle.ts_replies.specs.Acknowledged.{TellsApart, IsGoodMoment}
 use Rattle.ts_sessions.specs.Steps.{Turn}
 use Rattle.ts_sessions.proofs.CallerLemmas.{told_apart}
 use Rattle.ts_container.specs.declared.fault.SurveyFault.{SurveyFault}
@@ -13,10 +12,8 @@ use Rattle.ts_volume.specs.Volume.{MeansCatalogue}
 use Rattle.ts_opening.specs.Engine.{Engine}
 use Rattle.ts_opening.specs.Engine.{Started, StillMeans}
 use Rattle.ts_replies.specs.Said.{SaysFairly, AllDone}
-use Rattle.ts_replies.specs.Good.{IsGoodMoment}
 use Rattle.ts_carriers.proofs.CallerLemmas.{rose_on}
-use Rattle.ts_opening.specs.Opening.{status_of_opening}
-use Rattle.ts_opening.specs.Taken.{Took}
+use Rattle.ts_opening.specs.Opening.{status_of_opening, Took}
 use Rattle.ts_opening.proofs.CallerLemmas.{first_then, good_first, is_unopened, opened_store, ran_from, silent, unopened_status, unopened_store}
 use Rattle.ts_session_runs.specs.Carrier.{sessions as protocol}
 use Rattle.ts_session_runs.specs.Ran.{SessionsOver}

@@ -1,10 +1,10 @@
 -- What a status shows of the source.
 use Rattle.std.proofs.Common.{◌≡◌, ◌⊎◌, inl, inr, ⊎_elim, ℕ, ◌≤◌, Bool, true, false, IsTrue, List, [], ◌++◌, length, Ok, Err, refl, sym, ◌∙◌, ap, arith, length-append}
 use Rattle.std.proofs.lemmas.List.{append-nil}
-use Rattle.ts_disk.specs.Input.{Input}
+use Rattle.ts_disk.specs.Device.{Input}
 use Rattle.ts_multi.specs.Sections.{sections}
 use Rattle.ts_carriers.proofs.CallerLemmas.{never}
-use Rattle.ts_opening.specs.Taken.{Took, TookEnough, TookTooMuch}
+use Rattle.ts_opening.specs.Opening.{Took, TookEnough, TookTooMuch}
 use Rattle.ts_session_source.specs.declared.fault.TextFault.{TextFault}
 use Rattle.ts_session_source.specs.declared.fault.TextFault.TheVariants.{Pull, TooLong, Memory}
 use Rattle.ts_session_source.specs.Fault.{status_of_text}

@@ -1,7 +1,7 @@
 -- A text that is taken piece by piece, and how that ends.
 use Rattle.std.proofs.Common.{◌≡◌, inl, inr, ℕ, ◌+◌, ◌<◌, ◌≤◌, Bool, IsTrue, List, [], ◌++◌, length, take, Ok, Err, refl, sym, ◌∙◌, ap, arith, length-append}
 use Rattle.std.proofs.lemmas.List.{append-nil, length-take-le}
-use Rattle.ts_disk.specs.Input.{Input, Pulled}
+use Rattle.ts_disk.specs.Device.{Input, Pulled}
 use Rattle.ts_carriers.proofs.CallerLemmas.{rose_on}
 use Rattle.ts_opening.proofs.CallerLemmas.{IsOnce, nothing_left, once_more, once_now, once_pulled, pulls_on, taken_on}
 use Rattle.ts_session_source.specs.declared.fault.TextFault.TheVariants.{Pull, TooLong, Memory}

@@ -1,7 +1,6 @@
 -- What sessions do over an engine that was opened.
 use Rattle.std.specs.Prelude.{◌≡◌, ◌⊎◌, ℕ, ◌<◌, ◌≤◌, Bool, List, length, Ok, Err}
-use Rattle.ts_disk.specs.Device.{Device}
-use Rattle.ts_disk.specs.Input.{Input}
+use Rattle.ts_disk.specs.Device.{Device, Input}
 use Rattle.ts_journal.specs.Moment.{OnlyReads}
 use Rattle.ts_multi.specs.Sections.{sections}
 use Rattle.ts_opening.specs.Engine.{Kept}

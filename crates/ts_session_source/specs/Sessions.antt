@@ -2,8 +2,7 @@
 -- the order that a seed decides.
 use Rattle.std.specs.Prelude.{◌≡◌, ◌≢◌, ◌⊎◌, ℕ, ◌+◌, ◌<◌, ◌≤◌, ◌&&◌, nat_le, if◌then◌else◌, Bool, false, IsTrue, List}
 use Rattle.std.specs.Prelude.{[], length, map}
-use Rattle.ts_disk.specs.Device.{Device, Rose, FirstSync}
-use Rattle.ts_disk.specs.Input.{Input}
+use Rattle.ts_disk.specs.Device.{Device, Rose, FirstSync, Input}
 use Rattle.ts_model.specs.Catalogue.{Catalogue}
 use Rattle.ts_multi.specs.Sections.{sections}
 use Rattle.ts_multi.specs.Picks.{picks_of}
@@ -14,8 +13,7 @@ use Rattle.ts_sessions.specs.Turns.{requests_of, turns}
 use Rattle.ts_volume.specs.Volume.{MeansCatalogue}
 use Rattle.ts_opening.specs.Engine.{StillMeans}
 use Rattle.ts_replies.specs.Said.{AllDone}
-use Rattle.ts_opening.specs.Opening.{OpensStore}
-use Rattle.ts_opening.specs.Taken.{TookTooMuch, TookEnough, RanFrom}
+use Rattle.ts_opening.specs.Opening.{OpensStore, TookTooMuch, TookEnough, RanFrom}
 use Rattle.ts_session_runs.specs.Carrier.{sessions as protocol}
 use Rattle.ts_session_source.specs.Text.{most_text}
 

@@ -1,8 +1,7 @@
 -- The whole text of a source, as it is taken.
 use Rattle.std.specs.Prelude.{◌≡◌, ◌⊎◌, ℕ, ◌+◌, ◌≤◌, Bool, false, IsTrue, List, [], length, Result, Err, IfOk}
-use Rattle.ts_disk.specs.Device.{Rose}
-use Rattle.ts_disk.specs.Input.{Input}
-use Rattle.ts_opening.specs.Taken.{TookTooMuch, TookEnough}
+use Rattle.ts_disk.specs.Device.{Rose, Input}
+use Rattle.ts_opening.specs.Opening.{TookTooMuch, TookEnough}
 use Rattle.ts_session_source.specs.declared.fault.TextFault.{TextFault}
 use Rattle.ts_session_source.specs.declared.fault.TextFault.TheVariants.{Pull, TooLong}
 

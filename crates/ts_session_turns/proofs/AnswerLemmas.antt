@@ -2,13 +2,11 @@
 use Rattle.std.proofs.Common.{◌≡◌, ℕ, true, false, None, Ok, Err, List, ap, sym, ◌∙◌}
 use Rattle.ts_base.specs.declared.refusal.Refusal.{Refusal}
 use Rattle.ts_command.specs.declared.command.Command.{Command}
-use Rattle.ts_command.specs.Boundary.{boundary_of}
-use Rattle.ts_command.specs.Writing.{is_writing}
+use Rattle.ts_command.specs.Boundary.{boundary_of, is_writing}
 use Rattle.ts_model.specs.Catalogue.{Catalogue}
-use Rattle.ts_answer.specs.Answer.{Answered, Tried, answer, outcome, settled}
+use Rattle.ts_answer.specs.Answer.{Answered, Tried, answer, outcome, settled, State, resting}
 use Rattle.ts_answer.specs.Outcomes.{ends_with_ok, is_answered}
 use Rattle.ts_answer.specs.Reply.{refusal_line}
-use Rattle.ts_answer.specs.State.{State, resting}
 use Rattle.ts_answer.proofs.CallerLemmas.{ok_lines_are_answers, outside_came, outside_refused, plain_answer}
 use Rattle.ts_answer_laws.proofs.ReadingLemmas.{leaves}
 

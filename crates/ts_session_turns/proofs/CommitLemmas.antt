@@ -13,9 +13,8 @@ use Rattle.ts_multi.specs.Objects.{written}
 use Rattle.ts_multi.specs.Touched.{objects}
 use Rattle.ts_multi.specs.Log.{Log, Pending, pending_at, conflict_of, wrote_of, after_commit, after_end}
 use Rattle.ts_volume.specs.Volume.{MeansCatalogue}
-use Rattle.ts_answer.specs.Refusals.{Tried}
-use Rattle.ts_answer.specs.Reply.{number_line, refusal_line}
-use Rattle.ts_answer.specs.State.{resting, committed}
+use Rattle.ts_answer.specs.Reply.{Tried, number_line, refusal_line}
+use Rattle.ts_answer.specs.Answer.{resting, committed}
 use Rattle.ts_sessions.specs.Machine.{Snapshot, Machine, latest, snapshot_at, replayed, conflict}
 use Rattle.ts_sessions.specs.Steps.{step_of, with_commit, with_snapshot}
 use Rattle.ts_sessions.proofs.CallerLemmas.{behind_commits_more}

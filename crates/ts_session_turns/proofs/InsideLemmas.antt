@@ -7,17 +7,15 @@ use Rattle.ts_disk.specs.Device.{Device, Lawful, LeavesOnly}
 use Rattle.ts_disk.proofs.Moments.{leaves_map}
 use Rattle.ts_page.specs.Pages.{Contents}
 use Rattle.ts_command.specs.declared.command.Command.{Command}
-use Rattle.ts_command.specs.Boundary.{boundary_of}
+use Rattle.ts_command.specs.Boundary.{boundary_of, is_writing}
 use Rattle.ts_command.specs.Form.{HasForm}
-use Rattle.ts_command.specs.Writing.{is_writing}
 use Rattle.ts_model.specs.Catalogue.{Catalogue}
 use Rattle.ts_multi.specs.declared.object.Touched.{Touched}
 use Rattle.ts_multi.specs.Touched.{objects}
 use Rattle.ts_multi.specs.Log.{Log, Pending, pending_at, with_noted, after_note}
-use Rattle.ts_answer.specs.Answer.{Answered, Tried, answer, outcome}
+use Rattle.ts_answer.specs.Answer.{Answered, Tried, answer, outcome, resting}
 use Rattle.ts_answer.specs.Outcomes.{ends_with_ok}
 use Rattle.ts_answer.specs.Reply.{refusal_line}
-use Rattle.ts_answer.specs.State.{resting}
 use Rattle.ts_sessions.specs.Machine.{Snapshot, Machine, latest, seen, snapshot_at, begun_at}
 use Rattle.ts_sessions.specs.Steps.{step_of, with_command, with_snapshot}
 use Rattle.ts_sessions.proofs.CallerLemmas.{accepted_answer, carried_more}

@@ -4,8 +4,7 @@ use Rattle.ts_base.specs.declared.refusal.Refusal.{Refusal}
 use Rattle.ts_base.specs.declared.refusal.Refusal.TheVariants as refusals
 use Rattle.ts_command.specs.declared.command.Command.{Command}
 use Rattle.ts_command.specs.declared.boundary.Boundary.TheVariants.{Opens, Commits, RollsBack, Alone}
-use Rattle.ts_command.specs.Boundary.{boundary_of}
-use Rattle.ts_command.specs.Writing.{is_writing}
+use Rattle.ts_command.specs.Boundary.{boundary_of, is_writing}
 use Rattle.ts_model.specs.Catalogue.{Catalogue}
 use Rattle.ts_multi.specs.Objects.{written}
 use Rattle.ts_multi.specs.Touched.{objects}

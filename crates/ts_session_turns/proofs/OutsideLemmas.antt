@@ -6,17 +6,15 @@ use Rattle.ts_disk.specs.Device.{Device, LeavesOnly}
 use Rattle.ts_disk.proofs.Moments.{leaves_map}
 use Rattle.ts_page.specs.Pages.{Contents}
 use Rattle.ts_command.specs.declared.command.Command.{Command}
-use Rattle.ts_command.specs.Boundary.{boundary_of}
-use Rattle.ts_command.specs.Writing.{is_writing}
+use Rattle.ts_command.specs.Boundary.{boundary_of, is_writing}
 use Rattle.ts_model.specs.Catalogue.{Catalogue}
 use Rattle.ts_multi.specs.declared.object.Object.{Object}
 use Rattle.ts_multi.specs.Touched.{objects}
 use Rattle.ts_multi.specs.Log.{Log, Pending, pending_at}
 use Rattle.ts_multi.specs.Log.{with_commit as with_commit_in_log}
 use Rattle.ts_volume.specs.Volume.{MeansCatalogue}
-use Rattle.ts_answer.specs.Answer.{Answered, Tried, answer, outcome}
+use Rattle.ts_answer.specs.Answer.{Answered, Tried, answer, outcome, State, resting, committed}
 use Rattle.ts_answer.specs.Outcomes.{ends_with_ok}
-use Rattle.ts_answer.specs.State.{State, resting, committed}
 use Rattle.ts_answer.proofs.CallerLemmas.{plain_answer}
 use Rattle.ts_sessions.specs.Machine.{Machine, latest, snapshot_at}
 use Rattle.ts_sessions.specs.Steps.{step_of, with_commit}

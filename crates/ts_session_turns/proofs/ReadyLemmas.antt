@@ -4,9 +4,8 @@ use Rattle.std.proofs.lemmas.Bool.{cases_eq}
 use Rattle.std.proofs.lemmas.List.{get_or-set_same, get_or-set_other, length-append}
 use Rattle.std.proofs.lemmas.List.Elements.{All-append}
 use Rattle.ts_command.specs.declared.command.Command.{Command}
-use Rattle.ts_command.specs.Boundary.{boundary_of}
+use Rattle.ts_command.specs.Boundary.{boundary_of, is_writing}
 use Rattle.ts_command.specs.Form.{HasForm}
-use Rattle.ts_command.specs.Writing.{is_writing}
 use Rattle.ts_page.specs.Pages.{Contents}
 use Rattle.ts_multi.specs.Log.{Log, Pending, pending_at}
 use Rattle.ts_views.specs.declared.view.View.{View}

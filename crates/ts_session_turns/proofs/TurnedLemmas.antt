@@ -4,7 +4,7 @@ use Rattle.std.proofs.Common.{◌≡◌, inl, ℕ, ◌+◌, ◌-◌, ◌≤◌, 
 use Rattle.ts_disk.specs.Device.{Device, Lawful, LeavesOnly}
 use Rattle.ts_disk.proofs.Moments.{started}
 use Rattle.ts_store.proofs.CallerLemmas.{reads_none}
-use Rattle.ts_command.specs.Script.{Request}
+use Rattle.ts_command.specs.Grammar.{Request}
 use Rattle.ts_volume.specs.Volume.{MeansCatalogue}
 use Rattle.ts_multi.specs.Log.{Log}
 use Rattle.ts_sessions.specs.Machine.{Machine, latest}

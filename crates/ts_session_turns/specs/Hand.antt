@@ -3,7 +3,7 @@ use Rattle.std.specs.Prelude.{◌≡◌, ℕ, Bool, Option, Some, None, is_some,
 use Rattle.ts_disk.specs.Device.{Device}
 use Rattle.ts_page.specs.Pages.{Contents}
 use Rattle.ts_multi.specs.Log.{Log, pending_at}
-use Rattle.ts_answer.specs.State.{resting}
+use Rattle.ts_answer.specs.Answer.{resting}
 use Rattle.ts_sessions.specs.Machine.{Snapshot, Machine, latest, seen, snapshot_at}
 use Rattle.ts_sessions.specs.LogOf.{log_of}
 use Rattle.ts_sessions.specs.Laws.{IsSound}

@@ -2,7 +2,7 @@
 use Rattle.std.specs.Prelude.{◌≡◌, ◌⊎◌, ℕ, ◌+◌, ◌≤◌, Bool, IsTrue, Result, Err, OnOk, OnErr, List, length}
 use Rattle.ts_disk.specs.Device.{Device, Rose, LeavesOnly}
 use Rattle.ts_journal.specs.Moment.{Keeps}
-use Rattle.ts_command.specs.Script.{Request}
+use Rattle.ts_command.specs.Grammar.{Request}
 use Rattle.ts_sessions.specs.Machine.{Machine, latest}
 use Rattle.ts_sessions.specs.Steps.{step_of}
 use Rattle.ts_volume.specs.Volume.{MeansCatalogue}

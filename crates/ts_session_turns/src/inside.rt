@@ -1,9 +1,8 @@
 // A command of a session inside its transaction.
 ghost use Rattle.std.specs.Prelude.{◌≡◌, ◌<◌, [], None, Ok, IfSome, length, true};
 ghost use Rattle.std.specs.Option.{IsSome};
-ghost use Rattle.ts_command.specs.Boundary.{boundary_of};
+ghost use Rattle.ts_command.specs.Boundary.{boundary_of, is_writing};
 ghost use Rattle.ts_command.specs.Form.{HasForm};
-ghost use Rattle.ts_command.specs.Writing.{is_writing};
 ghost use Rattle.ts_multi.specs.Log.{pending_at};
 ghost use Rattle.ts_views.specs.View.{view_of};
 ghost use Rattle.ts_session_engine.specs.Committed.{commands_of};

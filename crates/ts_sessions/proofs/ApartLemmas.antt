@@ -9,14 +9,13 @@ use Rattle.ts_command.specs.declared.command.Command.{Command}
 use Rattle.ts_command.specs.declared.boundary.Boundary.{Boundary}
 use Rattle.ts_command.specs.declared.boundary.Boundary.TheVariants.{Opens, Commits, RollsBack, Alone}
 use Rattle.ts_command.specs.Boundary.{boundary_of}
-use Rattle.ts_command.specs.Script.{Request}
+use Rattle.ts_command.specs.Grammar.{Request}
 use Rattle.ts_model.specs.Catalogue.{Catalogue}
 use Rattle.ts_replies.specs.Acknowledged.{Protocol, behind, memory_line, AllAnswered, TellsApart}
 use Rattle.ts_replies.proofs.Hearing.{heard-nothing}
 use Rattle.ts_replies.proofs.Steps.{one_answered, answered_then}
 use Rattle.ts_answer.specs.Reply.{number_line, refusal_line}
-use Rattle.ts_answer.specs.Answer.{Tried, Answered, may_lack_memory}
-use Rattle.ts_answer.specs.State.{State, opened, run_outcome, run_answer, stand_in}
+use Rattle.ts_answer.specs.Answer.{Tried, Answered, may_lack_memory, State, opened, run_outcome, run_answer, stand_in}
 use Rattle.ts_answer.proofs.CallerLemmas.{run_came, run_refused, misread_refused, committed_inside}
 use Rattle.ts_answer.proofs.ApartLemmas.{apart}
 use Rattle.ts_sessions.specs.Machine.{Snapshot, Machine, latest, snapshot_at, replayed, seen, conflict, state_of}

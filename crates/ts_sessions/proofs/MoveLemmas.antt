@@ -7,15 +7,13 @@ use Rattle.ts_base.specs.declared.refusal.Refusal.TheVariants as refusals
 use Rattle.ts_command.specs.declared.command.Command.{Command}
 use Rattle.ts_command.specs.declared.boundary.Boundary.{Boundary}
 use Rattle.ts_command.specs.declared.boundary.Boundary.TheVariants.{Opens, Commits, RollsBack, Alone}
-use Rattle.ts_command.specs.Boundary.{boundary_of}
-use Rattle.ts_command.specs.Writing.{is_writing}
-use Rattle.ts_command.specs.Script.{Request}
+use Rattle.ts_command.specs.Boundary.{boundary_of, is_writing}
+use Rattle.ts_command.specs.Grammar.{Request}
 use Rattle.ts_model.specs.Catalogue.{Catalogue}
 use Rattle.ts_multi.specs.Objects.{written}
 use Rattle.ts_multi.specs.Touched.{objects}
 use Rattle.ts_answer.specs.Reply.{ok_line}
-use Rattle.ts_answer.specs.Answer.{Tried, Answered, outcome}
-use Rattle.ts_answer.specs.State.{State, resting, opened, counted, run_outcome}
+use Rattle.ts_answer.specs.Answer.{Tried, Answered, outcome, State, resting, opened, counted, run_outcome}
 use Rattle.ts_answer.proofs.CallerLemmas.{outside_refused, outside_came, opened_outside, committed_outside, rolled_back_outside, opened_inside, rolled_back_inside, full_inside, refused_inside, came_inside}
 use Rattle.ts_sessions.specs.Machine.{Snapshot, Machine, latest, snapshot_at, replayed, seen, conflict, state_of}
 use Rattle.ts_sessions.specs.Laws.{CanBeNoted}

@@ -6,14 +6,13 @@ use Rattle.std.proofs.lemmas.List.Elements.{All-append}
 use Rattle.ts_command.specs.declared.command.Command.{Command}
 use Rattle.ts_command.specs.declared.command.Command.TheVariants as commands
 use Rattle.ts_command.specs.declared.boundary.Boundary.TheVariants.{Commits}
-use Rattle.ts_command.specs.Writing.{is_writing}
-use Rattle.ts_command.specs.Script.{Request}
+use Rattle.ts_command.specs.Boundary.{is_writing}
+use Rattle.ts_command.specs.Grammar.{Request}
 use Rattle.ts_model.specs.Catalogue.{Catalogue}
 use Rattle.ts_multi.specs.Objects.{written}
 use Rattle.ts_multi.specs.Touched.{objects}
 use Rattle.ts_answer.specs.Reply.{ok_line, number_line}
-use Rattle.ts_answer.specs.Answer.{Tried, Answered, ◌>>=◌, outcome}
-use Rattle.ts_answer.specs.State.{State, resting, opened, counted, run_outcome, run_answer}
+use Rattle.ts_answer.specs.Answer.{Tried, Answered, ◌>>=◌, outcome, State, resting, opened, counted, run_outcome, run_answer}
 use Rattle.ts_answer.proofs.CallerLemmas.{run_came, opened_outside, committed_outside, committed_inside, came_inside}
 use Rattle.ts_sessions.specs.Machine.{Commit, Snapshot, Machine, start, latest, snapshot_at, behind_commits, replayed, conflict}
 use Rattle.ts_sessions.specs.Steps.{Turn, with_snapshot, with_commit, replied, unless_conflict, accepted_or, committed, step_of, machine_step, machine_answer}

@@ -5,9 +5,8 @@ use Rattle.std.specs.List.{concat}
 use Rattle.ts_command.specs.declared.command.Command.{Command}
 use Rattle.ts_command.specs.declared.command.Command.TheVariants as commands
 use Rattle.ts_command.specs.declared.boundary.Boundary.TheVariants.{Commits}
-use Rattle.ts_command.specs.Boundary.{boundary_of}
-use Rattle.ts_command.specs.Writing.{is_writing}
-use Rattle.ts_command.specs.Script.{Request}
+use Rattle.ts_command.specs.Boundary.{boundary_of, is_writing}
+use Rattle.ts_command.specs.Grammar.{Request}
 use Rattle.ts_model.specs.Catalogue.{Catalogue}
 use Rattle.ts_multi.specs.declared.object.Object.{Object}
 use Rattle.ts_multi.specs.Objects.{written, touched_by}
@@ -16,7 +15,7 @@ use Rattle.ts_multi.specs.Schedule.{items_of}
 use Rattle.ts_multi.specs.Log.{commit_at, pending_at, conflict_of, after_begin, after_end, after_note, after_commit}
 use Rattle.ts_multi.specs.Log.{with_commit as with_commit_in_log}
 use Rattle.ts_replies.specs.Acknowledged.{Protocol, AllAnswered}
-use Rattle.ts_answer.specs.State.{State, resting, run_answer}
+use Rattle.ts_answer.specs.Answer.{State, resting, run_answer}
 use Rattle.ts_sessions.specs.Machine.{Commit, Snapshot, Machine, start, latest, snapshot_at, replayed, begun_at, seen}
 use Rattle.ts_sessions.specs.Machine.{wrote_by, conflict}
 use Rattle.ts_sessions.specs.Steps.{Turn, with_snapshot, with_commit, fresh, with_command, session_line, machine_step}

@@ -5,10 +5,9 @@ use Rattle.ts_model.specs.Catalogue.{Catalogue}
 use Rattle.ts_multi.specs.declared.object.Object.{Object}
 use Rattle.ts_multi.specs.Touched.{objects}
 use Rattle.ts_multi.specs.Log.{conflict_after}
-use Rattle.ts_answer.specs.Refusals.{Tried}
-unfoldable use Rattle.ts_answer.specs.Refusals.{◌>>=◌}
-use Rattle.ts_answer.specs.Answer.{outcome, answer}
-use Rattle.ts_answer.specs.State.{State, resting, opened}
+use Rattle.ts_answer.specs.Reply.{Tried}
+unfoldable use Rattle.ts_answer.specs.Reply.{◌>>=◌}
+use Rattle.ts_answer.specs.Answer.{outcome, answer, State, resting, opened}
 
 -- a commit: the catalogue behind it, and the objects that it wrote
 pub record Commit : Type 0 where

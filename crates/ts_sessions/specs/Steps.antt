@@ -5,16 +5,14 @@ use Rattle.ts_base.specs.declared.refusal.Refusal.TheVariants as refusals
 use Rattle.ts_command.specs.declared.command.Command.{Command}
 use Rattle.ts_command.specs.declared.boundary.Boundary.{Boundary}
 use Rattle.ts_command.specs.declared.boundary.Boundary.TheVariants.{Opens, Commits, RollsBack, Alone}
-use Rattle.ts_command.specs.Boundary.{boundary_of}
-use Rattle.ts_command.specs.Writing.{is_writing}
-use Rattle.ts_command.specs.Script.{Request}
+use Rattle.ts_command.specs.Boundary.{boundary_of, is_writing}
+use Rattle.ts_command.specs.Grammar.{Request}
 use Rattle.ts_model.specs.Catalogue.{Catalogue}
 use Rattle.ts_multi.specs.declared.object.Object.{Object}
 use Rattle.ts_multi.specs.Objects.{written}
 use Rattle.ts_multi.specs.Touched.{objects}
-use Rattle.ts_answer.specs.Refusals.{Tried}
-use Rattle.ts_answer.specs.Reply.{number_line, refusal_line}
-use Rattle.ts_answer.specs.State.{State, run_outcome}
+use Rattle.ts_answer.specs.Reply.{Tried, number_line, refusal_line}
+use Rattle.ts_answer.specs.Answer.{State, run_outcome}
 use Rattle.ts_sessions.specs.Machine.{Commit, Snapshot, Machine, latest, snapshot_at, replayed, conflict, state_of}
 
 -- a reply, and the machine behind it

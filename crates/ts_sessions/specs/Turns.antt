@@ -1,11 +1,11 @@
 -- A run of sessions: their requests in the order of their turns, the replies to these, and what a stop may leave.
 use Rattle.std.specs.Prelude.{ℕ, ◌==◌, if◌then◌else◌, List, [], ◌∷◌, ◌++◌, map, option_map}
 use Rattle.ts_items.specs.Items.{items_to_end}
-use Rattle.ts_command.specs.Script.{Request, request_of}
+use Rattle.ts_command.specs.Grammar.{Request, request_of}
 use Rattle.ts_model.specs.Catalogue.{Catalogue}
 use Rattle.ts_multi.specs.Schedule.{order}
 use Rattle.ts_replies.specs.Acknowledged.{Answer, Protocol}
-use Rattle.ts_answer.specs.State.{stand_in}
+use Rattle.ts_answer.specs.Answer.{stand_in}
 use Rattle.ts_sessions.specs.Machine.{Machine, latest}
 use Rattle.ts_sessions.specs.Steps.{Turn, session_line, machine_step, machine_answer}
 

@@ -13,8 +13,7 @@ use Rattle.ts_space.specs.Charge.{distinct_count}
 use Rattle.ts_space.proofs.PlaceLemmas.{int_eq_same, int_eq_lower, int_eq_higher}
 use Rattle.ts_row.specs.declared.kind.Column.{Column}
 use Rattle.ts_row.specs.Row.{Row}
-use Rattle.ts_regular.specs.Cell.{Cell, regular_room, base_of}
-use Rattle.ts_regular.specs.Offsets.{OffsetElement, elements_from, with_element}
+use Rattle.ts_regular.specs.RegularPage.{Cell, regular_room, base_of, OffsetElement, elements_from, with_element}
 use Rattle.ts_regular.specs.Places.{OffsetPage, IsOn, AreOn, all_in}
 use Rattle.ts_regular.proofs.OffsetLemmas.{AreMore, eq_yes, eq_no, with_above, with_below, with_same}
 use Rattle.ts_regular.proofs.CellsLemmas.{count_in, count_within}

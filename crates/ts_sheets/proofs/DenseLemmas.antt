@@ -4,8 +4,8 @@ use Rattle.std.proofs.lemmas.List.{length-map}
 use Rattle.std.proofs.lemmas.List.Sums.{sum_by-cons}
 use Rattle.ts_space.specs.Charge.{irregular_charge, IsChain}
 use Rattle.ts_space.proofs.ChargeLemmas.{chain_charge}
-use Rattle.ts_row.specs.Element.{Element}
-use Rattle.ts_sheets.specs.Chain.{all_in, AreSized, IsDense}
+use Rattle.ts_row.specs.Row.{Element}
+use Rattle.ts_sheets.specs.Stamped.{all_in, AreSized, IsDense}
 
 -- the last of the pages and a next one with so many elements don't fit one page
 abbrev pub MeetsLeft : ℕ → List (List Element) → ℕ → Type 0

@@ -3,10 +3,9 @@ use Rattle.std.proofs.Common.{◌≡◌, ℕ, ℤ, ◌<ℤ◌, ◌≤ℤ◌, Som
 use Rattle.std.proofs.lemmas.Int.{ints}
 use Rattle.std.proofs.lemmas.List.{take-append-drop}
 use Rattle.ts_row.specs.declared.kind.Column.{Column}
-use Rattle.ts_row.specs.Element.{Element}
-use Rattle.ts_cells.specs.Cell.{page_room}
-use Rattle.ts_cells.specs.IrregularPage.{AreElements, AreRising, AreInOrder, first_stamp}
-use Rattle.ts_sheets.specs.Chain.{all_in, AreEarlier, AreLater, AreBefore, ArePages, AreSized}
+use Rattle.ts_row.specs.Row.{Element}
+use Rattle.ts_cells.specs.IrregularPage.{page_room, AreElements, AreRising, AreInOrder, first_stamp}
+use Rattle.ts_sheets.specs.Stamped.{all_in, AreEarlier, AreLater, AreBefore, ArePages, AreSized}
 
 -- the elements of two parts of a chain
 pub all_in-append : (front back : List (List Element)) → all_in (front ++ back) ≡ all_in front ++ all_in back

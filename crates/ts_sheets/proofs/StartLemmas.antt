@@ -4,11 +4,8 @@ use Rattle.std.specs.Prelude.{int_lt}
 use Rattle.std.proofs.lemmas.Int.{ints}
 use Rattle.std.proofs.lemmas.List.Kept.{AllPairs-filter}
 use Rattle.std.proofs.lemmas.Option.{slice_get_within, slice_get-get_or, get_or_from_slice_get}
-use Rattle.ts_calendar.specs.Plan.{CalendarPlan}
-use Rattle.ts_calendar.specs.Intervals.{IsLaid}
-use Rattle.ts_calendar.specs.First.{reach, near_count}
-use Rattle.ts_offset.specs.Walk.{on_start, on_starts}
-use Rattle.ts_offset.specs.Grid.{GridPlan, starts_of, stamp_of}
+use Rattle.ts_calendar.specs.Calendars.{CalendarPlan, IsLaid, reach, near_count}
+use Rattle.ts_offset.specs.Grid.{on_start, on_starts, GridPlan, starts_of, stamp_of}
 use Rattle.ts_offset.proofs.ListedLemmas.{listed-rise}
 use Rattle.ts_offset.proofs.SumLemmas.{taken-le}
 

@@ -4,8 +4,7 @@ use Rattle.ts_space.specs.declared.place.Place.{Place}
 use Rattle.ts_space.specs.Place.{place_at}
 use Rattle.ts_space.specs.Charge.{regular_charge}
 use Rattle.ts_row.specs.declared.kind.Column.{Column}
-use Rattle.ts_regular.specs.Cell.{regular_room, base_of}
-use Rattle.ts_regular.specs.Offsets.{OffsetElement}
+use Rattle.ts_regular.specs.RegularPage.{regular_room, base_of, OffsetElement}
 
 -- the charge of a series with these elements: how many different pages their offsets belong to
 abbrev pub charge_of : List Column → List OffsetElement → ℕ

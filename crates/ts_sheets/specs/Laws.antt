@@ -4,13 +4,13 @@ use Rattle.ts_space.specs.declared.place.Place.{Place}
 use Rattle.ts_space.specs.Place.{IsRising}
 use Rattle.ts_space.specs.Charge.{irregular_charge}
 use Rattle.ts_row.specs.declared.kind.Column.{Column}
-use Rattle.ts_row.specs.Element.{Element}
+use Rattle.ts_row.specs.Row.{Element}
 use Rattle.ts_cells.specs.IrregularPage.{AreInOrder}
-use Rattle.ts_calendar.specs.Intervals.{IsLaid}
+use Rattle.ts_calendar.specs.Calendars.{IsLaid}
 use Rattle.ts_offset.specs.Grid.{GridPlan, stamp_of}
 use Rattle.ts_regular.specs.Places.{OffsetPage, AreOn}
 use Rattle.ts_regular.specs.Places as grid
-use Rattle.ts_sheets.specs.Chain.{all_in, ArePages, AreSized, IsDense}
+use Rattle.ts_sheets.specs.Stamped.{all_in, ArePages, AreSized, IsDense}
 use Rattle.ts_sheets.specs.Charge.{charge_of}
 
 -- the elements of filled pages, each page before the next, are in order together

@@ -5,8 +5,8 @@ use Rattle.ts_space.specs.declared.place.Place.{Place}
 use Rattle.ts_space.specs.Place.{AreAbove, IsRising, pages_of}
 use Rattle.ts_page.specs.Pages.{Contents}
 use Rattle.ts_row.specs.declared.kind.Column.{Column}
-use Rattle.ts_row.specs.Element.{Element}
-use Rattle.ts_cells.specs.Cell.{page_room}
+use Rattle.ts_row.specs.Row.{Element}
+use Rattle.ts_cells.specs.IrregularPage.{page_room}
 use Rattle.ts_irregular.specs.OnePage.{IsPlace, IsOn}
 pub use Rattle.ts_regular.specs.Places.{CanBeRead}
 pub use Rattle.ts_regular.specs.Cut.{CanBeFreed}

@@ -4,17 +4,13 @@ use Rattle.std.specs.FinMap.{entries}
 use Rattle.ts_base.specs.declared.fault.Trouble.{Trouble}
 use Rattle.ts_base.specs.declared.fault.Trouble.TheVariants.{Refused, Memory}
 use Rattle.ts_row.specs.declared.kind.Column.{Column}
-use Rattle.ts_row.specs.RowType.{Heading}
-use Rattle.ts_row.specs.Row.{Row}
-use Rattle.ts_row.specs.Element.{Element}
+use Rattle.ts_row.specs.Row.{Heading, Row, Element}
 use Rattle.ts_space.specs.Directory.{places_of}
-use Rattle.ts_sheets.specs.Range.{within_range}
+use Rattle.ts_sheets.specs.Stamped.{within_range}
 use Rattle.ts_offset.specs.declared.shape.Shape.{Shape}
 use Rattle.ts_expr.specs.declared.item.Item.{Item}
 use Rattle.ts_base.specs.Answer.{Answers}
-use Rattle.ts_expr.specs.Grammar.{read_list}
-use Rattle.ts_expr.specs.Binding.{Binding, binding}
-use Rattle.ts_expr.specs.Fold.{folded_row}
+use Rattle.ts_expr.specs.Aggregates.{read_list, Binding, binding, folded_row}
 use Rattle.ts_clip.specs.Series.{IsTold}
 use Rattle.ts_offset.specs.Shape.{IsLaidOut}
 use Rattle.ts_aggregate.specs.Fold.{Fold, Folds}

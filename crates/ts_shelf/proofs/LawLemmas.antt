@@ -1,7 +1,7 @@
 -- The laws of layouts, at hand for what follows.
 use Rattle.std.proofs.Common.{◌≡◌, List}
 use Rattle.std.specs.FinMap.{entries}
-use Rattle.ts_row.specs.Element.{Element}
+use Rattle.ts_row.specs.Row.{Element}
 use Rattle.ts_cells.specs.IrregularPage.{AreRising}
 use Rattle.ts_layout.specs.Chains.{by_stamp}
 use Rattle.ts_layout.specs.ChainLaws.{SeriesAreOnPages}

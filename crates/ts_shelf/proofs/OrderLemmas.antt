@@ -1,7 +1,7 @@
 -- The elements that pages have of a series are in order.
 use Rattle.std.proofs.Common.{ℕ, List, subst}
 use Rattle.ts_row.specs.declared.kind.Column.{Column}
-use Rattle.ts_row.specs.Element.{Element}
+use Rattle.ts_row.specs.Row.{Element}
 use Rattle.ts_space.specs.declared.place.Place.{Place}
 use Rattle.ts_space.specs.Place.{IsRising}
 use Rattle.ts_cells.specs.IrregularPage.{AreRising}

@@ -5,15 +5,13 @@ use Rattle.std.specs.FinMap.{get, entries}
 use Rattle.ts_command.specs.declared.command.Command.{Command}
 use Rattle.ts_page.specs.Pages.{Contents}
 use Rattle.ts_row.specs.declared.kind.Column.{Column}
-use Rattle.ts_row.specs.RowType.{Heading}
-use Rattle.ts_row.specs.Element.{Element, seen}
+use Rattle.ts_row.specs.Row.{Heading, Element, seen}
 use Rattle.ts_space.specs.declared.place.Place.{Place}
 use Rattle.ts_space.specs.Directory.{Directory, places_of}
 use Rattle.ts_cells.specs.IrregularPage.{AreRising}
 use Rattle.ts_irregular.specs.Call.{Reads}
-use Rattle.ts_sheets.specs.Chain.{all_in}
+use Rattle.ts_sheets.specs.Stamped.{all_in, stamped}
 use Rattle.ts_regular.specs.Places.{all_in as all_at}
-use Rattle.ts_sheets.specs.Stamped.{stamped}
 use Rattle.ts_offset.specs.declared.shape.Shape.{Shape}
 use Rattle.ts_offset.specs.declared.shape.Shape.TheVariants.{Irregular, Regular}
 use Rattle.ts_clip.specs.Series.{HaveElements}
@@ -21,8 +19,7 @@ use Rattle.ts_offset.specs.Shape.{IsLaidOut}
 use Rattle.ts_model.specs.Catalogue.{Series, columns_of, shape_of}
 use Rattle.ts_model.specs.declared.kind.Kind.TheVariants as kinds
 use Rattle.ts_model.specs.Definitions.{Definitions, RowTypeDef, ContainerDef, SeriesDef, at_slot}
-use Rattle.ts_layout.specs.Limits.{AreOfFormat}
-use Rattle.ts_layout.specs.Meaning.{Layout, IsSound, HoldsLayout, heading_of_container, heading_in, heading_at, shape_at, elements_at, series_of, catalogue_of, shape_of as shape_in}
+use Rattle.ts_layout.specs.Meaning.{AreOfFormat, Layout, IsSound, HoldsLayout, heading_of_container, heading_in, heading_at, shape_at, elements_at, series_of, catalogue_of, shape_of as shape_in}
 use Rattle.ts_layout.specs.Surveyed.{ListsPlaces}
 use Rattle.ts_layout.specs.Chains.{by_stamp, AreFilled}
 use Rattle.ts_layout.proofs.CallerLemmas.{one_of, series_found, container_of_series, row_type_of_container, shape_found}

@@ -1,6 +1,6 @@
 -- A series with its columns and its shape, for a key, and where it stands in a layout.
 use Rattle.std.specs.Prelude.{◌≡◌, ℕ, Some, List}
-use Rattle.ts_row.specs.RowType.{Heading}
+use Rattle.ts_row.specs.Row.{Heading}
 use Rattle.ts_model.specs.declared.kind.Kind.TheVariants as kinds
 use Rattle.ts_offset.specs.declared.shape.Shape.{Shape}
 use Rattle.ts_model.specs.Catalogue.{Series, columns_of, shape_of}

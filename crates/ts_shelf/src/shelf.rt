@@ -2,7 +2,7 @@
 ghost use Rattle.std.specs.Prelude.{◌≡◌, ◌<◌, ℕ, IfOk, List, Some};
 ghost use Rattle.ts_space.specs.Place.{IsRising};
 ghost use Rattle.ts_space.specs.Directory.{places_of};
-ghost use Rattle.ts_cells.specs.Cell.{page_room};
+ghost use Rattle.ts_cells.specs.IrregularPage.{page_room};
 ghost use Rattle.ts_clip.specs.Series.{ArePlaces};
 ghost use Rattle.ts_offset.specs.Shape.{IsLaidOut};
 ghost use Rattle.ts_model.specs.declared.kind.Kind.TheVariants.{Series};

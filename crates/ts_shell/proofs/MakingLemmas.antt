@@ -6,7 +6,7 @@ use Rattle.ts_disk.specs.Device.{Device, Lawful, LeavesOnly, Torn, overwritten, 
 use Rattle.ts_disk.proofs.Moments.{started, calls_on}
 use Rattle.ts_disk.proofs.Ranges.{drop_further}
 use Rattle.ts_disk.proofs.Replays.{Torn-overwritten}
-use Rattle.ts_page.specs.Volume.{first_element_page}
+use Rattle.ts_page.specs.Pages.{first_element_page}
 use Rattle.ts_journal.specs.Journal.{page_count, records, pages}
 use Rattle.ts_model.specs.Definitions.{IsFormat}
 use Rattle.ts_model.specs.Catalogue.{empty_catalogue}

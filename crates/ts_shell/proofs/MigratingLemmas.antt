@@ -3,7 +3,7 @@ use Rattle.std.proofs.Common.{◌≡◌, ◌⊎◌, inl, inr, ⊎_elim, ℕ, ◌
 use Rattle.ts_disk.specs.Device.{Device, Only, Rose, FirstSync, LeavesOnly}
 use Rattle.ts_disk.proofs.Moments.{first_map, leaves_map}
 use Rattle.ts_model.specs.Catalogue.{Catalogue, in_newest_format}
-use Rattle.ts_answer.specs.State.{resting}
+use Rattle.ts_answer.specs.Answer.{resting}
 use Rattle.ts_volume.proofs.CallerLemmas.{nothing_meant}
 use Rattle.ts_container.specs.declared.fault.SurveyFault.{SurveyFault}
 use Rattle.ts_container.specs.declared.fault.SurveyFault.TheVariants.{NotAStore, Failed, Memory}

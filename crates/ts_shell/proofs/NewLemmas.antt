@@ -4,20 +4,16 @@ use Rattle.std.specs.Option.{option_and_then}
 use Rattle.std.specs.FinMap.{from_entries}
 use Rattle.std.proofs.lemmas.Bool.Decides.{nat_tests}
 use Rattle.std.proofs.lemmas.List.{drop-replicate, length-replicate, take-replicate, take-take}
-use Rattle.ts_page.specs.Head.{bytes_at}
-use Rattle.ts_page.specs.Volume.{first_element_page}
-use Rattle.ts_journal.specs.Gate.{is_open}
-use Rattle.ts_journal.specs.Entry.{is_region}
-use Rattle.ts_journal.specs.Journal.{region, records, own_page, pages, put_records}
+use Rattle.ts_page.specs.Pages.{bytes_at, first_element_page}
+use Rattle.ts_journal.specs.Journal.{is_open, is_region, region, records, own_page, pages, put_records}
 use Rattle.ts_journal.proofs.CallerLemmas.{gate_part, same_gate, records_closed}
 use Rattle.ts_model.specs.declared.kind.Kind.{Kind}
 use Rattle.ts_model.specs.declared.kind.Kind.TheVariants as kinds
 use Rattle.ts_model.specs.Definitions.{Definitions, RowTypeDef, PatternDef, CalendarDef, ContainerDef, SeriesDef, IsTable, IsFormat, no_definitions, with_format, limit, filled_from}
 use Rattle.ts_model.proofs.PartsLemmas.{nothing-defined}
 use Rattle.ts_model.specs.Catalogue.{empty_catalogue}
-use Rattle.ts_layout.specs.Limits.{IsSlotOf}
+use Rattle.ts_layout.specs.Meaning.{IsSlotOf, Free, Layout, def_at, heading_in, HoldsDefinitions, HoldsElements, IsSound, text_of, container_of, series_of, catalogue_of, sum_of_quotas}
 use Rattle.ts_layout.specs.Slot.{header_bytes, slot_size, slot_bytes, page_of_slot, byte_of_slot, slots_in_page, bytes_of_slots}
-use Rattle.ts_layout.specs.Meaning.{Free, Layout, def_at, heading_in, HoldsDefinitions, HoldsElements, IsSound, text_of, container_of, series_of, catalogue_of, sum_of_quotas}
 use Rattle.ts_layout.proofs.CallerLemmas.{page_low, page_high, slot_end, slot_empty, fits_page}
 use Rattle.ts_volume.specs.Volume.{MeansCatalogue}
 

@@ -1,7 +1,7 @@
 -- What the top call does, by its words: where they are none of its forms, and for `init`.
 use Rattle.std.specs.Prelude.{◌≡◌, ◌⊎◌, ℕ, ◌+◌, ◌*◌, ◌<◌, Bool, IsTrue, ◌≢◌}
 use Rattle.ts_disk.specs.Device.{Device, Within, Rose}
-use Rattle.ts_page.specs.Volume.{page_size, first_element_page}
+use Rattle.ts_page.specs.Pages.{page_size, first_element_page}
 use Rattle.ts_model.specs.Catalogue.{empty_catalogue, newest_format}
 use Rattle.ts_volume.specs.Volume.{MeansCatalogue}
 use Rattle.ts_opening.specs.Engine.{NothingIsPending}

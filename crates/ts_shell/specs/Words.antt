@@ -1,7 +1,7 @@
 -- The words of the command line.
 use Rattle.std.specs.Prelude.{◌≤◌, ℕ, ◌&&◌, nat_le, if◌then◌else◌, List, [], ◌∷◌, length, Option, Some, None, codes}
 use Rattle.std.specs.Str.{bytes_eq}
-use Rattle.ts_base.specs.StampText.{number_of, all_digits}
+use Rattle.ts_base.specs.Moment.{number_of, all_digits}
 use Rattle.ts_shell.specs.declared.words.Job.{Job}
 use Rattle.ts_shell.specs.declared.words.Job.TheVariants.{Init, Run, Check, Migrate, Gen, Sessions}
 

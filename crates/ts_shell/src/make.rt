@@ -2,7 +2,7 @@
 ghost use Rattle.std.specs.Prelude.{◌≡◌, ◌+◌, ◌*◌, ◌≤◌, ◌<◌, IsTrue, IsErr, OnOk};
 ghost use Rattle.ts_disk.specs.Device.{Only, Rose};
 ghost use Rattle.ts_model.specs.Catalogue.{empty_catalogue, newest_format};
-ghost use Rattle.ts_page.specs.Volume.{page_size, first_element_page};
+ghost use Rattle.ts_page.specs.Pages.{page_size, first_element_page};
 ghost use Rattle.ts_volume.specs.Volume.{MeansCatalogue};
 ghost use Rattle.ts_shell.specs.Making.{EmptyFrom};
 

@@ -1,8 +1,8 @@
 -- The page of a calendar: what stands before its pattern, and which pattern it has.
 use Rattle.std.proofs.Common.{◌≡◌, ℕ, ◌-◌, ℤ, Option, List, ◌∷◌, ◌++◌, length, take, drop, ap, ◌∙◌, arith, append_assoc}
 use borrow.Rule.Slice.PartMut.{put_mid}
-use Rattle.ts_calendar.specs.Plan.{CalendarPlan}
-use Rattle.ts_cells.specs.Cell.{stamp_bytes}
+use Rattle.ts_calendar.specs.Calendars.{CalendarPlan}
+use Rattle.ts_cells.specs.IrregularPage.{stamp_bytes}
 use Rattle.ts_layout.specs.Slot.{padded, name_bytes, part_bytes, calendar_bytes}
 use Rattle.ts_slots.specs.Written.{front_bytes}
 use Rattle.ts_slots.proofs.PartLemmas.{parts}

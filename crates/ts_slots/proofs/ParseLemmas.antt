@@ -3,7 +3,7 @@ use Rattle.std.proofs.Common.{◌≡◌, ℕ, ◌-◌, ◌≤◌, ◌&&◌, Bool
 use Rattle.std.proofs.lemmas.Bool.Decides.{nat_tests}
 use Rattle.std.proofs.lemmas.List.{append-nil, take-append-drop}
 use Rattle.ts_base.specs.Name.{is_name, is_key, name_if_any, key_if_any}
-use Rattle.ts_row.specs.RowType.{is_row_type, keep_rules, may_follow, bad_column}
+use Rattle.ts_row.specs.Row.{is_row_type, keep_rules, may_follow, bad_column}
 use Rattle.ts_row.specs.declared.kind.Column.{Column}
 use Rattle.ts_row.proofs.RowTypeLemmas.{keep_rules-push, bad_column-none}
 use Rattle.ts_model.specs.declared.def.Def.{Def}
@@ -12,7 +12,7 @@ use Rattle.ts_model.specs.declared.kind.Kind.{Kind}
 use Rattle.ts_slots.specs.declared.slot.Reading.TheVariants.{Bad, Empty}
 use Rattle.ts_layout.specs.Slot.{column_bytes, columns_bytes, def_bytes, slot_bytes, slot_size}
 use Rattle.ts_slots.specs.Reading.{IsReadingOf}
-use Rattle.ts_layout.specs.Limits.{IsDef}
+use Rattle.ts_layout.specs.Meaning.{IsDef}
 use Rattle.ts_layout.proofs.CallerLemmas.{AreNamed, named_first, named_others, first_column, slot_empty, slot_filled}
 
 -- what is two things is one

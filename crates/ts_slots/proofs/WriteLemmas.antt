@@ -5,10 +5,9 @@ use Rattle.std.proofs.lemmas.Bool.{cases_lt, cases_eq}
 use Rattle.std.proofs.lemmas.List.{take_at, drop_at, take-take, take-append-le, drop-drop, length-take-le}
 use Rattle.std.proofs.lemmas.Slice.{between_is}
 use Rattle.ts_base.specs.declared.fault.StoreFault.{StoreFault}
-use Rattle.ts_page.specs.Head.{bytes_at}
+use Rattle.ts_page.specs.Pages.{bytes_at, Contents, EqualPages, with_page, IsLawful, IsListed, Got, Put}
 use Rattle.std.specs.Prelude.{Contains}
 use Rattle.std.proofs.lemmas.List.Elements.{All-contains}
-use Rattle.ts_page.specs.Pages.{Contents, EqualPages, with_page, IsLawful, IsListed, Got, Put}
 use Rattle.ts_layout.proofs.CallerLemmas.{slot_empty, this_or_other, apart_by_rank, sizes, def_at-with_slot, def_at-cleared, def_at-other, page_low, page_high, slot_end}
 use Rattle.ts_model.specs.declared.kind.Kind.{Kind}
 use Rattle.ts_model.specs.declared.kind.Kind.TheVariants as kinds

@@ -4,7 +4,7 @@ use Rattle.ts_model.specs.declared.kind.Kind.{Kind}
 use Rattle.ts_model.specs.declared.def.Def.{Def}
 use Rattle.ts_model.specs.Definitions.{kind_of}
 use Rattle.ts_layout.specs.Slot.{def_bytes, slot_bytes}
-use Rattle.ts_layout.specs.Limits.{IsDef, IsSlotOf}
+use Rattle.ts_layout.specs.Meaning.{IsDef, IsSlotOf}
 use Rattle.ts_slots.specs.declared.slot.Written.{Written}
 use Rattle.ts_slots.specs.declared.slot.Reading.{Reading}
 use Rattle.ts_slots.specs.declared.slot.Reading.TheVariants.{Bad, Empty, Filled}

@@ -1,15 +1,15 @@
 -- What is written in a slot: a definition, or a calendar as its slot has it, which has the runs of its pattern only
 -- where this is its own.
 use Rattle.std.specs.Prelude.{◌≡◌, ℕ, ℤ, Option, Some, None, List, [], ◌∷◌, ◌++◌}
-use Rattle.ts_pattern.specs.Plan.{Plan}
-use Rattle.ts_cells.specs.Cell.{stamp_bytes}
+use Rattle.ts_pattern.specs.Patterns.{Plan}
+use Rattle.ts_cells.specs.IrregularPage.{stamp_bytes}
 use Rattle.ts_model.specs.declared.kind.Kind.{Kind}
 use Rattle.ts_model.specs.declared.kind.Kind.TheVariants as kinds
 use Rattle.ts_model.specs.declared.def.Def.{Def}
 use Rattle.ts_model.specs.declared.def.Def.TheVariants as defs
 use Rattle.ts_model.specs.Definitions.{CalendarDef, kind_of, name_of}
 use Rattle.ts_layout.specs.Slot.{padded, name_bytes, plan_bytes, def_bytes}
-use Rattle.ts_layout.specs.Limits.{IsDef}
+use Rattle.ts_layout.specs.Meaning.{IsDef}
 use Rattle.ts_slots.specs.declared.calendar_slot.Part.{Part}
 use Rattle.ts_slots.specs.declared.calendar_slot.Part.TheVariants.{By, Own}
 use Rattle.ts_slots.specs.declared.calendar_slot.CalendarForm.{CalendarForm}

@@ -1,14 +1,14 @@
 // The slot of a calendar: a whole page. It is judged by itself first, since the calendar may lack its pattern or break
 // a rule.
 ghost use Rattle.std.specs.Prelude.{◌≡◌, ◌↔◌, ◌++◌, ℕ, ℤ, Option, Some, IsTrue, IfOk, length};
-ghost use Rattle.ts_page.specs.Volume.{page_size};
+ghost use Rattle.ts_page.specs.Pages.{page_size};
 ghost use Rattle.ts_base.specs.Moment.{IsStamp};
-ghost use Rattle.ts_cells.specs.Cell.{stamp_bytes};
-ghost use Rattle.ts_pattern.specs.Plan as plan;
-ghost use Rattle.ts_pattern.specs.Runs.{is_pattern};
+ghost use Rattle.ts_cells.specs.IrregularPage.{stamp_bytes};
+ghost use Rattle.ts_pattern.specs.Patterns as plan;
+ghost use Rattle.ts_pattern.specs.Patterns.{is_pattern};
 ghost use Rattle.ts_model.specs.Definitions.{CalendarDef};
 ghost use Rattle.ts_layout.specs.Slot.{padded, name_bytes, part_bytes, calendar_bytes};
-ghost use Rattle.ts_layout.specs.Limits.{IsCalendarDef};
+ghost use Rattle.ts_layout.specs.Meaning.{IsCalendarDef};
 ghost use Rattle.ts_slots.specs.Written.{said_bytes, part_on_page, form_of, form_bytes, front_bytes};
 
 use crate::pad::{pad, read_name, write_name};

@@ -4,7 +4,7 @@ ghost use Rattle.std.specs.Int.{w32, to_be_bytes};
 ghost use Rattle.ts_model.specs.declared.def.Def.{Def};
 ghost use Rattle.ts_model.specs.Definitions.{kind_of};
 ghost use Rattle.ts_layout.specs.Slot.{padded, name_bytes, container_bytes, def_bytes};
-ghost use Rattle.ts_layout.specs.Limits.{IsDef};
+ghost use Rattle.ts_layout.specs.Meaning.{IsDef};
 
 use crate::pad::{pad, read_name, write_name};
 use std::alloc::{AllocError, Global};

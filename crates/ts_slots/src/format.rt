@@ -1,6 +1,6 @@
 // What the format of a volume asks of a row type.
 ghost use Rattle.std.specs.Prelude.{◌↔◌, IsTrue};
-ghost use Rattle.ts_layout.specs.Limits.{IsOfFormat};
+ghost use Rattle.ts_layout.specs.Meaning.{IsOfFormat};
 
 use ts_model::OLD_FORMAT;
 use ts_row::RowType;

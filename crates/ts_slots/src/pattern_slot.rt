@@ -1,10 +1,10 @@
 // The slot of a pattern: a whole page.
 ghost use Rattle.std.specs.Prelude.{◌≡◌, ◌++◌, ℕ, Some, IfOk, IfSome, length};
-ghost use Rattle.ts_page.specs.Volume.{page_size};
+ghost use Rattle.ts_page.specs.Pages.{page_size};
 ghost use Rattle.ts_model.specs.declared.def.Def.{Def};
 ghost use Rattle.ts_model.specs.Definitions.{kind_of};
 ghost use Rattle.ts_layout.specs.Slot.{padded, name_bytes, plan_bytes, pattern_bytes, def_bytes};
-ghost use Rattle.ts_layout.specs.Limits.{IsDef};
+ghost use Rattle.ts_layout.specs.Meaning.{IsDef};
 
 use crate::pad::{read_name, write_name};
 use crate::plan::{parse_plan, write_plan};

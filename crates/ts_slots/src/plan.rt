@@ -4,8 +4,8 @@ ghost use Rattle.std.specs.List.{flat_map};
 ghost use Rattle.std.specs.Int.{w16, to_be_bytes};
 ghost use Rattle.ts_base.specs.declared.unit.Unit as unit;
 ghost use Rattle.ts_pattern.specs.declared.run.Run as run;
-ghost use Rattle.ts_pattern.specs.Plan as plan;
-ghost use Rattle.ts_pattern.specs.Runs.{total, is_pattern};
+ghost use Rattle.ts_pattern.specs.Patterns as plan;
+ghost use Rattle.ts_pattern.specs.Patterns.{total, is_pattern};
 ghost use Rattle.ts_layout.specs.Slot.{padded, unit_code, run_number, run_bytes, plan_bytes};
 
 use crate::pad::pad;

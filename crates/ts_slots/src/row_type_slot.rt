@@ -1,9 +1,9 @@
 // The slot of a row type: a whole page.
 ghost use Rattle.std.specs.Prelude.{◌≡◌, ◌*◌, ◌≤◌, ◌∷◌, ◌++◌, [], ℕ, List, Some, true, IsTrue, IfOk, OnOk, IfSome};
 ghost use Rattle.std.specs.Prelude.{length};
-ghost use Rattle.ts_page.specs.Volume.{page_size};
+ghost use Rattle.ts_page.specs.Pages.{page_size};
 ghost use Rattle.std.specs.List.{list_all};
-ghost use Rattle.ts_row.specs.RowType.{is_kind};
+ghost use Rattle.ts_row.specs.Row.{is_kind};
 ghost use Rattle.ts_base.specs.Name.{is_name};
 ghost use Rattle.ts_row.specs.declared.kind.ColumnKind.{ColumnKind};
 ghost use Rattle.ts_row.specs.declared.kind.Column.{Column};
@@ -11,7 +11,7 @@ ghost use Rattle.ts_model.specs.declared.def.Def.{Def};
 ghost use Rattle.ts_model.specs.Definitions.{kind_of};
 ghost use Rattle.ts_layout.specs.Slot.{padded, name_bytes, kind_bytes, column_bytes, columns_bytes, row_type_bytes};
 ghost use Rattle.ts_layout.specs.Slot.{def_bytes};
-ghost use Rattle.ts_layout.specs.Limits.{IsDef};
+ghost use Rattle.ts_layout.specs.Meaning.{IsDef};
 
 use crate::format::is_of_format;
 use crate::pad::{pad, read_name, write_name};

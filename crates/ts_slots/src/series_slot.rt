@@ -3,7 +3,7 @@ ghost use Rattle.std.specs.Prelude.{◌≡◌, ◌≤◌, ◌∷◌, ◌++◌, �
 ghost use Rattle.ts_model.specs.declared.def.Def.{Def};
 ghost use Rattle.ts_model.specs.Definitions.{kind_of};
 ghost use Rattle.ts_layout.specs.Slot.{padded, series_code, regular_bytes, series_bytes, def_bytes};
-ghost use Rattle.ts_layout.specs.Limits.{IsDef, IsRegularPart};
+ghost use Rattle.ts_layout.specs.Meaning.{IsDef, IsRegularPart};
 
 use crate::calendar_slot::parse_stamp;
 use crate::pad::pad;

@@ -3,7 +3,7 @@ ghost use Rattle.std.specs.Prelude.{◌≡◌, ◌↔◌, ℕ, length, IsTrue, I
 ghost use Rattle.ts_model.specs.declared.def.Def.{Def};
 ghost use Rattle.ts_model.specs.Definitions.{kind_of};
 ghost use Rattle.ts_layout.specs.Slot.{slot_size, def_bytes};
-ghost use Rattle.ts_layout.specs.Limits.{IsDef};
+ghost use Rattle.ts_layout.specs.Meaning.{IsDef};
 ghost use Rattle.ts_slots.specs.Reading.{IsReadingOf};
 ghost use Rattle.ts_slots.specs.Written.{IsWritten, kind_written, name_written, written_bytes, written_of};
 

@@ -1,6 +1,6 @@
 // One slot is written into its page, or the header.
 ghost use Rattle.std.specs.Prelude.{◌≡◌, ◌+◌, ◌<◌, ◌≤◌, IfSome, option_copied, length, replicate};
-ghost use Rattle.ts_page.specs.Volume.{page_size, first_element_page, image_entry_size};
+ghost use Rattle.ts_page.specs.Pages.{page_size, first_element_page, image_entry_size};
 ghost use Rattle.ts_model.specs.Definitions.{kind_of, limit};
 ghost use Rattle.ts_layout.specs.Slot.{slot_size, slot_bytes};
 ghost use Rattle.ts_layout.specs.Changed.{with_slot_bytes};

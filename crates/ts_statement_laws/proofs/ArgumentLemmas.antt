@@ -9,26 +9,22 @@ use Rattle.std.proofs.lemmas.Bool.{and_parts}
 use Rattle.std.proofs.lemmas.Bool.Decides.{nat_tests}
 use Rattle.std.proofs.lemmas.Int.{ints}
 use Rattle.ts_base.specs.Name.{is_name, is_key}
-use Rattle.ts_rolling.specs.Keys.{is_set}
-use Rattle.ts_base.specs.StampText.{read_stamp}
+use Rattle.ts_rolling.specs.Sets.{is_set}
+use Rattle.ts_base.specs.Moment.{read_stamp}
 use Rattle.ts_row.specs.declared.kind.ColumnKind.{ColumnKind}
 use Rattle.ts_row.specs.declared.kind.ColumnKind.TheVariants as kinds
 use Rattle.ts_row.specs.declared.kind.Column.{Column}
 use Rattle.ts_row.specs.declared.value.Literal.{Literal}
 use Rattle.ts_row.specs.declared.value.Literal.TheVariants as literals
-use Rattle.ts_text.specs.Digits.{magnitude_of}
+use Rattle.ts_text.specs.Phrase.{magnitude_of, Phrase, ◌>>=◌, give, token, word_in, name_as, a_sign, behind}
 use Rattle.ts_text.specs.Spelling.{Lexeme}
-use Rattle.ts_text.specs.Phrase.{Phrase, ◌>>=◌, give, token, word_in, name_as, a_sign, behind}
 use Rattle.ts_text.specs.declared.token.TokenKind.{TokenKind}
 use Rattle.ts_text.specs.declared.token.TokenKind.TheVariants.{Word, Number, Text, Sign}
-use Rattle.ts_tokens.specs.Tokens.{front}
-use Rattle.ts_tokens.specs.Number.{units_of, scale_of}
-use Rattle.ts_tokens.specs.Text.{said}
+use Rattle.ts_tokens.specs.Tokens.{front, units_of, scale_of, said}
 use Rattle.ts_tokens.proofs.CallerLemmas.{open_sign, close_sign, comma_sign}
 use Rattle.ts_arguments.specs.declared.word.Joined.{Joined}
 use Rattle.ts_arguments.specs.declared.word.Joined.TheVariants.{Patterns, Calendars}
-use Rattle.ts_arguments.specs.Words.{joined_spelling, joined_of, type_spelling, type_of, types}
-use Rattle.ts_arguments.specs.Arguments.{a_name, key_in, a_key, set_in, a_set, stamp_in, a_stamp, text_in, a_text, literal_in, a_literal, within, whole_in, a_whole, small_in, a_small, a_word, a_stamp_column, type_in, a_type, kind_behind, a_column, joined_in, a_joined}
+use Rattle.ts_arguments.specs.Arguments.{joined_spelling, joined_of, type_spelling, type_of, types, a_name, key_in, a_key, set_in, a_set, stamp_in, a_stamp, text_in, a_text, literal_in, a_literal, within, whole_in, a_whole, small_in, a_small, a_word, a_stamp_column, type_in, a_type, kind_behind, a_column, joined_in, a_joined}
 use Rattle.ts_statement_laws.specs.Statements.{NameOf, KeyOf, SetOf, StampOf, TextOf, WholeOf, WordOf, StampColumnOf, ColumnOf, ValueOf, One, Nothing, Then, IsWord, IsSign, IsText, IsName, IsSmall, IsWhole, IsValue, IsType, IsArgument}
 use Rattle.ts_statement_laws.proofs.ExactLemmas.{Exact, exact_same, exact_token, exact_sign, exact_give, exact_bind, exact_bind_of, exact_parts, exact_behind, then_nothing}
 

@@ -3,9 +3,7 @@ use Rattle.std.proofs.Common.{◌≡◌, ℕ, ℤ, List, [], ◌∷◌, ◌++◌
 use Rattle.ts_row.specs.declared.kind.Column.{Column}
 use Rattle.ts_text.specs.Spelling.{Lexeme}
 use Rattle.ts_text.specs.Phrase.{Phrase, ◌>>=◌, give, closed}
-use Rattle.ts_arguments.specs.Words.{joined_spelling}
-use Rattle.ts_arguments.specs.Arguments.{a_name, a_key, a_set, a_stamp, a_text, a_literal, a_whole, a_stamp_column, a_column, a_joined}
-use Rattle.ts_arguments.specs.Calls.{before, two, name_before, key_before, set_before, text_before, stamp_before, whole_before, two_names, three_names, joined_names, name_and_text, name_and_whole, two_names_and_whole, key_and_name, key_and_whole, key_and_stamp, two_stamps, name_range, key_range, two_keys_range, name_key_range, text_key_range, text_name_range, text_name_key_range, whole_range, key_whole_range, text_key_whole_range, stamp_and_name, name_stamp_and_name, key_name_stamp_and_name, stamp_and_whole, name_stamp_and_whole, key_stamp_and_whole, stamp_and_values, key_stamp_and_values, some_columns, stamp_and_columns, name_and_columns, set_range, set_stamp_and_values, stamp_name_and_whole, name_stamp_name_and_whole, set_name_stamp_name_and_whole}
+use Rattle.ts_arguments.specs.Arguments.{joined_spelling, a_name, a_key, a_set, a_stamp, a_text, a_literal, a_whole, a_stamp_column, a_column, a_joined, before, two, name_before, key_before, set_before, text_before, stamp_before, whole_before, two_names, three_names, joined_names, name_and_text, name_and_whole, two_names_and_whole, key_and_name, key_and_whole, key_and_stamp, two_stamps, name_range, key_range, two_keys_range, name_key_range, text_key_range, text_name_range, text_name_key_range, whole_range, key_whole_range, text_key_whole_range, stamp_and_name, name_stamp_and_name, key_name_stamp_and_name, stamp_and_whole, name_stamp_and_whole, key_stamp_and_whole, stamp_and_values, key_stamp_and_values, some_columns, stamp_and_columns, name_and_columns, set_range, set_stamp_and_values, stamp_name_and_whole, name_stamp_name_and_whole, set_name_stamp_name_and_whole}
 use Rattle.ts_statement_laws.specs.Statements.{Argument, NameOf, KeyOf, SetOf, StampOf, TextOf, WholeOf, WordOf, StampColumnOf, ColumnOf, ValueOf, One, Nothing, Then, IsSign, IsArgument, AreArguments}
 use Rattle.ts_statement_laws.proofs.ExactLemmas.{Exact, exact_same, exact_give, exact_bind, exact_before, exact_two, AreListed, exact_closed, then_nothing, shrinks}
 use Rattle.ts_statement_laws.proofs.ArgumentLemmas.{commas, closes, exact_name, exact_key, exact_set, exact_stamp, exact_text, exact_whole, exact_joined, exact_value, exact_stamp_column, exact_column}

@@ -1,16 +1,15 @@
 -- Phrases that are read exactly where certain tokens stand, and how they are composed.
 use Rattle.std.proofs.Common.{◌≡◌, ℕ, ◌==◌, false, Option, Some, Ok, Err, List, [], ◌∷◌, ◌++◌, length, append_assoc, append-nil, length-append, refl, sym, ap, subst, ◌∙◌, arith}
 use Rattle.ts_base.specs.Name.{is_blank}
-use Rattle.ts_text.specs.Blanks.{unblanked}
+use Rattle.ts_text.specs.Phrase.{unblanked, Read, Phrase, go_on, ◌>>=◌, give, token, a_sign, behind, made, closed}
 use Rattle.ts_text.specs.Spelling.{Lexeme, spelled, AreTokens, Spells}
-use Rattle.ts_text.specs.Phrase.{Read, Phrase, go_on, ◌>>=◌, give, token, a_sign, behind, made, closed}
 use Rattle.ts_text.specs.Parted.{IsParted}
 use Rattle.ts_text.specs.declared.token.TokenKind.{TokenKind}
 use Rattle.ts_text.specs.declared.token.TokenKind.TheVariants.{Sign}
 use Rattle.ts_text.proofs.CallerLemmas.{IsSign as IsSignOf, IsListed, Shrinks, blanked, unblanked_past, sign_is, sign_at, bind-ok, pair-parts, token-found, token-read, listed_found, listed_read}
 use Rattle.ts_tokens.specs.Tokens.{front}
 use Rattle.ts_tokens.proofs.CallerLemmas.{front_laws}
-use Rattle.ts_arguments.specs.Calls.{before, two}
+use Rattle.ts_arguments.specs.Arguments.{before, two}
 use Rattle.ts_statement_laws.specs.Statements.{One, Nothing, Then, IsSign}
 
 -- tokens one behind the other

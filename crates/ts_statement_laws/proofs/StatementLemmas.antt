@@ -3,17 +3,15 @@ use Rattle.std.proofs.Common.{◌≡◌, ℕ, pos, neg_ℤ, Bool, true, false, c
 use Rattle.std.specs.Prelude.{codes}
 use Rattle.std.specs.Str.{bytes_eq}
 use Rattle.ts_row.specs.declared.kind.Column.{Column}
-use Rattle.ts_text.specs.Blanks.{unblanked}
+use Rattle.ts_text.specs.Phrase.{unblanked, Read, Phrase, go_on, ◌>>=◌, give, a_sign, made, the_end, outcome}
 use Rattle.ts_text.specs.Spelling.{Lexeme, spelled, Spells}
-use Rattle.ts_text.specs.Phrase.{Read, Phrase, go_on, ◌>>=◌, give, a_sign, made, the_end, outcome}
 use Rattle.ts_text.specs.declared.token.TokenKind.{TokenKind}
 use Rattle.ts_text.specs.declared.token.TokenKind.TheVariants.{Word, Number, Text, Sign}
 use Rattle.ts_text.proofs.CallerLemmas.{bind-ok, pair-parts}
 use Rattle.ts_tokens.specs.Tokens.{front}
-use Rattle.ts_arguments.specs.Calls.{name_before, key_before, set_before, two_names, joined_names, name_and_text, two_names_and_whole, key_and_name, key_and_whole, key_and_stamp, name_range, key_range, two_keys_range, text_key_range, text_name_range, text_name_key_range, text_key_whole_range, key_name_stamp_and_name, name_stamp_and_whole, key_stamp_and_whole, key_stamp_and_values, name_and_columns, set_range, set_stamp_and_values, set_name_stamp_name_and_whole}
+use Rattle.ts_arguments.specs.Arguments.{name_before, key_before, set_before, two_names, joined_names, name_and_text, two_names_and_whole, key_and_name, key_and_whole, key_and_stamp, name_range, key_range, two_keys_range, text_key_range, text_name_range, text_name_key_range, text_key_whole_range, key_name_stamp_and_name, name_stamp_and_whole, key_stamp_and_whole, key_stamp_and_values, name_and_columns, set_range, set_stamp_and_values, set_name_stamp_name_and_whole, joined_spelling}
 use Rattle.ts_arguments.specs.declared.word.Joined.{Joined}
 use Rattle.ts_arguments.specs.declared.word.Joined.TheVariants.{Patterns, Calendars}
-use Rattle.ts_arguments.specs.Words.{joined_spelling}
 use Rattle.ts_command.specs.Routines.{spelling, routines, routine_of}
 use Rattle.ts_command.specs.Grammar.{routine_in, a_routine, opening, arguments, a_call, a_command, command_of}
 use Rattle.ts_command.specs.declared.command.Command.{Command}

@@ -3,20 +3,17 @@ use Rattle.std.specs.Prelude.{◌≡◌, ℕ, ℤ, pos, neg_ℤ, ◌≤◌, ◌�
 use Rattle.std.specs.List.{list_all}
 use Rattle.std.specs.Char.{is_ascii_digit}
 use Rattle.ts_base.specs.Name.{is_name, is_key}
-use Rattle.ts_base.specs.StampText.{read_stamp}
+use Rattle.ts_base.specs.Moment.{read_stamp}
 use Rattle.ts_row.specs.declared.kind.ColumnKind.{ColumnKind}
 use Rattle.ts_row.specs.declared.kind.ColumnKind.TheVariants.{SmallInt, Integer, BigInt, Decimal, VarChar}
 use Rattle.ts_row.specs.declared.kind.Column.{Column}
 use Rattle.ts_row.specs.declared.value.Literal.{Literal}
 use Rattle.ts_row.specs.declared.value.Literal.TheVariants as literals
-use Rattle.ts_rolling.specs.Keys.{is_set}
-use Rattle.ts_text.specs.Blanks.{unblanked}
-use Rattle.ts_text.specs.Digits.{magnitude_of}
+use Rattle.ts_rolling.specs.Sets.{is_set}
+use Rattle.ts_text.specs.Phrase.{unblanked, magnitude_of}
 use Rattle.ts_text.specs.Spelling.{Lexeme, Spells}
 use Rattle.ts_text.specs.declared.token.TokenKind.TheVariants.{Word, Number, Text, Sign}
-use Rattle.ts_tokens.specs.Tokens.{front}
-use Rattle.ts_tokens.specs.Number.{units_of, scale_of}
-use Rattle.ts_tokens.specs.Text.{said}
+use Rattle.ts_tokens.specs.Tokens.{front, units_of, scale_of, said}
 use Rattle.ts_command.specs.declared.command.Command.{Command}
 use Rattle.ts_command.specs.declared.command.Command.TheVariants as commands
 

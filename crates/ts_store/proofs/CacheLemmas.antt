@@ -3,8 +3,7 @@ use Rattle.std.proofs.Common.{◌≡◌, ℕ, ◌<◌, ◌^◌, ◌⊎◌, inl, 
 use Rattle.std.proofs.lemmas.Bool.{cond-false, ne_eqb}
 use Rattle.ts_page.specs.Pages.{IsOutsideJournal}
 use Rattle.ts_journal.specs.declared.batch.Change.{Change}
-use Rattle.ts_journal.specs.Entry.{Entry, IsAllowed, change_of, changed, change_or, over, put, put_all}
-use Rattle.ts_journal.specs.Journal.{own_page, pages, StandsOver, ReadsButFreed, SameOrFreed}
+use Rattle.ts_journal.specs.Journal.{Entry, IsAllowed, change_of, changed, change_or, over, put, put_all, own_page, pages, StandsOver, ReadsButFreed, SameOrFreed}
 use Rattle.ts_journal.proofs.CallerLemmas.{put_rising, change_of-put, over_pages, put_all_none}
 use Rattle.ts_recover.proofs.CallerLemmas.{put_allowed}
 use Rattle.ts_cache.specs.Cache.{Cache, EachPage, page_of, after_get, after_put, after_forget}

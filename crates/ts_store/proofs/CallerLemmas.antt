@@ -1,11 +1,9 @@
 -- What a caller needs between the calls of a store.
 use Rattle.std.proofs.Common.{◌≡◌, ℕ, ◌*◌, ◌<◌, ◌≤◌, Bool, IsTrue, Some, List, [], length, refl, ap, sym, ◌∙◌, subst, arith}
 use Rattle.ts_disk.specs.Device.{Device, Only}
-use Rattle.ts_page.specs.Pages.{IsLawful, SameButFreed}
+use Rattle.ts_page.specs.Pages.{IsLawful, SameButFreed, first_element_page}
 use Rattle.ts_page.proofs.PagesLemmas.{lawful_same, same_trans, same_from_equal}
-use Rattle.ts_page.specs.Volume.{first_element_page}
-use Rattle.ts_journal.specs.Entry.{Entry, AreAllowed, entries_bytes, over, put_all}
-use Rattle.ts_journal.specs.Journal.{IsVolumeSize, page_count, own_page, records, pages, StandsOver, ReadsButFreed}
+use Rattle.ts_journal.specs.Journal.{Entry, AreAllowed, entries_bytes, over, put_all, IsVolumeSize, page_count, own_page, records, pages, StandsOver, ReadsButFreed}
 use Rattle.ts_journal.specs.Moment.{OnlyReads}
 use Rattle.ts_recover.proofs.CallerLemmas.{still_only}
 use Rattle.ts_cache.proofs.CallerLemmas.{none_has}

@@ -4,8 +4,7 @@ use Rattle.ts_disk.specs.Device.{Device, ReadAt}
 use Rattle.ts_page.specs.Pages.{IsLawful, IsOutsideJournal, Got}
 use Rattle.ts_page.proofs.PagesLemmas.{lawful_same}
 use Rattle.ts_journal.specs.declared.batch.Change.{Change}
-use Rattle.ts_journal.specs.Entry.{change_of, changed}
-use Rattle.ts_journal.specs.Journal.{own_page}
+use Rattle.ts_journal.specs.Journal.{change_of, changed, own_page}
 use Rattle.ts_journal.specs.Moment.{OnlyReads}
 use Rattle.ts_cache.specs.Cache.{Cache, page_of, after_put}
 use Rattle.ts_store.specs.OpenBatch.{State, IsInPlace, AreInPlace, change_read, page_or, in_memory, after_read, committed_pages, read_pages, contents_over}

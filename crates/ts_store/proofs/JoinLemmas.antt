@@ -6,7 +6,7 @@ use Rattle.std.proofs.lemmas.List.{append-nil}
 use Rattle.ts_page.specs.declared.page.Page.{Page}
 use Rattle.ts_journal.specs.declared.batch.Change.{Change}
 use Rattle.ts_journal.specs.declared.batch.Change.TheVariants.{Image, Free}
-use Rattle.ts_journal.specs.Entry.{Entry, AreAllowed, AreWhole, IsWhole, IsRising, change_of, entry_bytes, entries_bytes, is_image, put, put_all}
+use Rattle.ts_journal.specs.Journal.{Entry, AreAllowed, AreWhole, IsWhole, IsRising, change_of, entry_bytes, entries_bytes, is_image, put, put_all}
 use Rattle.ts_journal.proofs.BatchLemmas.{length_rising}
 use Rattle.ts_journal.proofs.CallerLemmas.{none_below, put_rising}
 use Rattle.ts_recover.proofs.CallerLemmas.{put_allowed}

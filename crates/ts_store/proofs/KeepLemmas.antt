@@ -7,8 +7,7 @@ use Rattle.ts_page.specs.Pages.{IsLawful, IsElementPage, with_page, Put, Freed}
 use Rattle.ts_page.proofs.PagesLemmas.{few_free, lawful_put, lawful_freed, lawful_taken}
 use Rattle.ts_journal.specs.declared.batch.Change.{Change}
 use Rattle.ts_journal.specs.declared.batch.Change.TheVariants.{Image, Free}
-use Rattle.ts_journal.specs.Entry.{Entry, IsBatch, change_of, content, entry_bytes, entries_bytes, is_image, over, put}
-use Rattle.ts_journal.specs.Journal.{own_page}
+use Rattle.ts_journal.specs.Journal.{Entry, IsBatch, change_of, content, entry_bytes, entries_bytes, is_image, over, put, own_page}
 use Rattle.ts_journal.proofs.CallerLemmas.{change_of-put, over_put}
 use Rattle.ts_recover.proofs.CallerLemmas.{reads_none}
 use Rattle.ts_cache.specs.Cache.{after_forget}

@@ -1,12 +1,10 @@
 -- What is read over a volume: the open batch, else the transaction, else the overlay, else the page in its place.
 use Rattle.std.proofs.Common.{◌≡◌, inl, inr, ⊎_elim, ℕ, ◌*◌, ◌^◌, eqb, Option, Some, None, List, [], ◌∷◌, refl, ap, sym, ◌∙◌, subst}
 use Rattle.std.proofs.lemmas.Bool.{cond-true, cond-false, cases_eq, eq-eqb, ne_eqb, not-true}
-use Rattle.ts_page.specs.Head.{bytes_at}
-use Rattle.ts_page.specs.Pages.{IsElementPage, SameButFreed, IsOutsideJournal}
+use Rattle.ts_page.specs.Pages.{bytes_at, IsElementPage, SameButFreed, IsOutsideJournal}
 use Rattle.ts_journal.specs.declared.batch.Change.{Change}
 use Rattle.ts_journal.specs.declared.batch.Change.TheVariants.{Image, Free}
-use Rattle.ts_journal.specs.Entry.{Entry, AreAllowed, IsRising, is_region, change_of, changed, change_or, over}
-use Rattle.ts_journal.specs.Journal.{own_page, pages, StandsOver, ReadsButFreed, SameOrFreed}
+use Rattle.ts_journal.specs.Journal.{Entry, AreAllowed, IsRising, is_region, change_of, changed, change_or, over, own_page, pages, StandsOver, ReadsButFreed, SameOrFreed}
 use Rattle.ts_journal.proofs.CallerLemmas.{no_region, over_pages}
 use Rattle.ts_journal.proofs.OverLemmas.{over_all}
 use Rattle.ts_store.specs.OpenBatch.{State, to_commit, change_read, read_pages}

@@ -1,8 +1,7 @@
 // A store over its volume, as a keeper of pages.
 ghost use Rattle.std.specs.Prelude.{◌≡◌, ◌*◌, IsTrue};
 ghost use Rattle.std.proofs.Props.{props};
-ghost use Rattle.ts_page.specs.Volume.{page_size};
-ghost use Rattle.ts_page.specs.Pages.{IsLawful};
+ghost use Rattle.ts_page.specs.Pages.{page_size, IsLawful};
 ghost use Rattle.ts_store.specs.OpenBatch.{AreInPlace, contents_over};
 
 use crate::store::Store;

@@ -1,7 +1,7 @@
 -- What a drop, a keep and a rollback leave of a store between two batches of a transaction.
 use Rattle.std.proofs.Common.{◌≡◌, ℕ, ◌≤◌, Bool, List, [], length, sym, ap, ◌∙◌, subst, arith}
 use Rattle.ts_disk.specs.Device.{Device}
-use Rattle.ts_journal.specs.Entry.{Entry, entries_bytes}
+use Rattle.ts_journal.specs.Journal.{Entry, entries_bytes}
 use Rattle.ts_store.specs.OpenBatch.{State, IsOver, IsIdle, IsClosed, to_commit, read_pages, rolled_back, contents_over}
 use Rattle.ts_store.specs.Undisturbed.{Undisturbed}
 use Rattle.ts_store.proofs.CallerLemmas.{over_prepared, idle_dropped, idle_joined, joined_counts, base_still, base_prepared, base_dropped, base_joined, over_rolled_back, idle_rolled_back, rolled_back_closed}

@@ -1,7 +1,7 @@
 // One page that is put again and again in one batch: its record has one image.
 ghost use Rattle.std.specs.Prelude.{◌≡◌, ◌+◌, ◌≤◌, ◌<◌, [], OnOk, Contains};
 ghost use Rattle.ts_disk.specs.Device.{Only};
-ghost use Rattle.ts_page.specs.Volume.{image_entry_size};
+ghost use Rattle.ts_page.specs.Pages.{image_entry_size};
 ghost use Rattle.ts_store.specs.OpenBatch.{IsOver, IsIdle, IsClosed, contents_over};
 ghost use Rattle.ts_store.specs.Undisturbed.{Undisturbed};
 

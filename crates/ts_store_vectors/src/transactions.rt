@@ -1,7 +1,7 @@
 // Batches that are kept in a transaction, its rollback, and its commit.
 ghost use Rattle.std.specs.Prelude.{◌≡◌, ◌+◌, ◌≤◌, ◌∷◌, [], OnOk, length};
 ghost use Rattle.ts_disk.specs.Device.{Only};
-ghost use Rattle.ts_page.specs.Volume.{image_entry_size, free_entry_size};
+ghost use Rattle.ts_page.specs.Pages.{image_entry_size, free_entry_size};
 ghost use Rattle.ts_store.specs.OpenBatch.{IsIdle, IsClosed, contents_over};
 ghost use Rattle.ts_store_vectors.specs.Transaction.{IsBetween};
 

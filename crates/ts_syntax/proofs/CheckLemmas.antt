@@ -1,8 +1,7 @@
 -- How a check ends.
 use Rattle.std.proofs.Common.{◌≡◌, ◌≢◌, ◌⊎◌, inl, inr, ⊎_elim, ℕ, ◌≤◌, ◌<◌, Bool, true, false, IsTrue, List, [], ◌∷◌, ◌++◌, length, take, Some, Result, Ok, Err, refl, sym, ◌∙◌, ap, subst, arith, append_assoc}
 use Rattle.std.proofs.lemmas.List.{append-nil}
-use Rattle.ts_disk.specs.Device.{Rose}
-use Rattle.ts_disk.specs.Input.{Input}
+use Rattle.ts_disk.specs.Device.{Rose, Input}
 use Rattle.ts_items.specs.Items.{place_from}
 use Rattle.ts_syntax.specs.Mistakes.{Mistake, mistakes, mistakes_from, mistakes_at_end}
 use Rattle.ts_syntax.specs.Output.{Heard}

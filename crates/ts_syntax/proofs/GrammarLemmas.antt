@@ -1,8 +1,7 @@
 -- A statement without the blanks in front is refused at the same byte.
 use Rattle.std.proofs.Common.{◌≡◌, ℕ, ◌+◌, ◌-◌, ◌≤◌, List, [], ◌∷◌, ◌++◌, length, take, Ok, Err, refl, sym, ◌∙◌, ap, arith, length-append}
 use Rattle.std.proofs.Math.Seq.{take-append-add}
-use Rattle.ts_text.specs.Blanks.{unblanked}
-use Rattle.ts_text.specs.Phrase.{Read, outcome}
+use Rattle.ts_text.specs.Phrase.{unblanked, Read, outcome}
 use Rattle.ts_text.proofs.CallerLemmas.{Any, left-le, unblanked_twice, unblanked-le}
 use Rattle.ts_tokens.specs.Tokens.{front}
 use Rattle.ts_tokens.proofs.CallerLemmas.{front_laws, front_ending}

@@ -7,8 +7,7 @@ use Rattle.std.proofs.lemmas.Grind.{flat_map-append}
 use Rattle.ts_base.specs.declared.refusal.Refusal.{Refusal}
 use Rattle.ts_items.specs.Items.{Item, Statement, TooLong, Unended, after, items_from, place_from, is_unended_at}
 use Rattle.ts_items.proofs.ItemLaws.{place_from-append}
-use Rattle.ts_command.specs.Grammar.{command_of}
-use Rattle.ts_command.specs.Script.{Request, request_of, requests, last_request}
+use Rattle.ts_command.specs.Grammar.{command_of, Request, request_of, requests, last_request}
 use Rattle.ts_command.specs.declared.command.Command.{Command}
 use Rattle.ts_syntax.specs.Mistakes.{Mistake, mistakes, mistakes_of, mistakes_from, mistakes_at_end, text_at, place_in}
 use Rattle.ts_syntax.specs.Laws.{refusals_of, refusals, IsEnded, IsCutOff, StandsIn, StandInTurn}

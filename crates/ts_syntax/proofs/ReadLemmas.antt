@@ -5,14 +5,14 @@ use Rattle.std.proofs.lemmas.Bool.{and_parts, cases_Bool}
 use Rattle.std.proofs.lemmas.List.{append-nil, take_more, take-take}
 use Rattle.std.proofs.lemmas.List.Folds.{list_all-append}
 use Rattle.ts_base.specs.Name.{is_blank}
-use Rattle.ts_text.specs.Blanks.{unblanked}
+use Rattle.ts_text.specs.Phrase.{unblanked}
 use Rattle.ts_items.specs.Items.{Item, Statement, TooLong, Unended, after, items_from, place_from, all_blank, is_unended_at, quotes_match}
 use Rattle.ts_items.specs.Reader.{item_of, items_of}
 use Rattle.ts_items.specs.declared.reader.Cut.{Cut}
 use Rattle.ts_items.specs.declared.reader.Cut.TheVariants as cuts
 use Rattle.ts_items.proofs.ItemLemmas.{all_blank-push}
 use Rattle.ts_items.proofs.ItemLaws.{items_from-append, place_from-append}
-use Rattle.ts_command.specs.Script.{request_of}
+use Rattle.ts_command.specs.Grammar.{request_of}
 use Rattle.ts_syntax.specs.Mistakes.{Mistake, mistakes_of, mistakes_from, mistakes_at_end, text_at}
 use Rattle.ts_syntax.specs.Places.{IsBehind}
 use Rattle.ts_syntax.specs.Reading.{Stands, HasRead, Reads, shows_at}

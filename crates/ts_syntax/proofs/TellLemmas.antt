@@ -8,9 +8,8 @@ use Rattle.ts_base.specs.Refusal.{refusal_name}
 use Rattle.ts_items.specs.Reader.{item_of}
 use Rattle.ts_items.specs.declared.reader.Cut.{Cut}
 use Rattle.ts_items.specs.declared.reader.Cut.TheVariants as cuts
-use Rattle.ts_text.specs.Blanks.{unblanked}
-use Rattle.ts_command.specs.Grammar.{command_of}
-use Rattle.ts_command.specs.Script.{request_of, or_syntax}
+use Rattle.ts_text.specs.Phrase.{unblanked}
+use Rattle.ts_command.specs.Grammar.{command_of, request_of, or_syntax}
 use Rattle.ts_command.specs.Misfit.{IsCause}
 use Rattle.ts_command.specs.declared.command.Command.{Command}
 use Rattle.ts_syntax.specs.Mistakes.{Mistake, place_in, before_place, mistakes_of}

@@ -1,7 +1,6 @@
 -- What the check of a script does.
 use Rattle.std.specs.Prelude.{◌≡◌, ◌≢◌, ◌⊎◌, ℕ, ◌<◌, ◌≤◌, Bool, IsTrue, [], length}
-use Rattle.ts_disk.specs.Device.{Rose}
-use Rattle.ts_disk.specs.Input.{Input}
+use Rattle.ts_disk.specs.Device.{Rose, Input}
 use Rattle.ts_syntax.specs.Mistakes.{mistakes}
 use Rattle.ts_syntax.specs.Output.{Heard}
 use Rattle.ts_syntax.specs.Lines.{SaysAll, SaysFirst}

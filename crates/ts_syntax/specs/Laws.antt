@@ -4,8 +4,7 @@ use Rattle.std.specs.Prelude.{⊤}
 use Rattle.std.specs.List.{flat_map}
 use Rattle.ts_base.specs.declared.refusal.Refusal.{Refusal}
 use Rattle.ts_items.specs.Items.{Item, Unended, after, place_from, is_unended_at}
-use Rattle.ts_command.specs.Grammar.{command_of}
-use Rattle.ts_command.specs.Script.{Request, request_of, requests, last_request}
+use Rattle.ts_command.specs.Grammar.{command_of, Request, request_of, requests, last_request}
 use Rattle.ts_syntax.specs.Mistakes.{Mistake, place_in}
 
 -- why a request is refused, if it is

@@ -4,8 +4,7 @@ use Rattle.std.specs.Prelude.{Err}
 use Rattle.std.specs.List.{flat_map}
 use Rattle.ts_base.specs.declared.refusal.Refusal.{Refusal}
 use Rattle.ts_items.specs.Items.{Unended, after, place_from, is_unended_at}
-use Rattle.ts_command.specs.Grammar.{command_of}
-use Rattle.ts_command.specs.Script.{Request, request_of}
+use Rattle.ts_command.specs.Grammar.{command_of, Request, request_of}
 use Rattle.ts_command.specs.declared.command.Command.{Command}
 
 -- a refused statement: what stands before its place in the script, and why it is refused

@@ -8,8 +8,8 @@ use Rattle.ts_items.specs.Items.{place_from, is_unended_at}
 use Rattle.ts_items.specs.Reader.{item_of}
 use Rattle.ts_items.specs.declared.reader.Cut.{Cut}
 use Rattle.ts_items.specs.declared.reader.Cut.TheVariants as cuts
-use Rattle.ts_text.specs.Blanks.{unblanked}
-use Rattle.ts_command.specs.Script.{request_of}
+use Rattle.ts_text.specs.Phrase.{unblanked}
+use Rattle.ts_command.specs.Grammar.{request_of}
 use Rattle.ts_command.specs.declared.command.Command.{Command}
 use Rattle.ts_syntax.specs.Places.{IsBehind}
 use Rattle.ts_syntax.specs.Mistakes.{Mistake, text_at, mistakes_from, mistakes_of}

@@ -1,6 +1,6 @@
 // A script, pulled in pieces and checked piece by piece.
 ghost use Rattle.std.specs.Prelude.{◌≡◌, ◌≤◌, ◌<◌, ◌+◌, IfOk, false, [], length};
-ghost use Rattle.ts_disk.specs.Input.{Pulled};
+ghost use Rattle.ts_disk.specs.Device.{Pulled};
 ghost use Rattle.ts_syntax.specs.Reading.{HasRead};
 ghost use Rattle.ts_syntax.specs.Checked.{Checked};
 ghost use Rattle.ts_syntax.specs.Statuses.{status_of, status_at_end};

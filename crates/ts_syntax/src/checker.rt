@@ -3,8 +3,7 @@ ghost use Rattle.std.specs.Prelude.{◌≡◌, ◌≤◌, ◌<◌, ◌+◌, ◌^
 ghost use Rattle.std.specs.Prelude.{take, false};
 ghost use Rattle.ts_base.specs.Refusal.{refusal_name};
 ghost use Rattle.ts_items.specs.Reader.{item_of};
-ghost use Rattle.ts_command.specs.Grammar.{command_of};
-ghost use Rattle.ts_command.specs.Script.{request_of};
+ghost use Rattle.ts_command.specs.Grammar.{command_of, request_of};
 ghost use Rattle.ts_syntax.specs.Places.{IsBehind};
 ghost use Rattle.ts_syntax.specs.Mistakes.{Mistake, mistakes_of, mistakes_from, mistakes_at_end};
 ghost use Rattle.ts_syntax.specs.Lines.{IsLine};

@@ -1,12 +1,12 @@
 -- How large the number of a token is.
 use Rattle.std.proofs.Common.{◌≡◌, ℕ, ◌+◌, ◌-◌, ◌*◌, ◌^◌, ◌<◌, ◌≤◌, true, List, length, take, slice_index_or, arith, cond, [], ◌∷◌, filter, refl, ap}
 use Rattle.std.proofs.lemmas.Bool.{and_parts}
-use Rattle.ts_base.specs.StampText.{all_digits}
+use Rattle.ts_base.specs.Moment.{all_digits}
 use Rattle.std.proofs.Math.Nat.{pow-le-pow_right}
 use Rattle.std.proofs.lemmas.Grind.{pow_more}
 use Rattle.std.proofs.lemmas.List.Sums.{sum_by_more_le, sum_by-take-le, count_by-le-length}
 use Rattle.std.specs.Char.{is_ascii_digit}
-use Rattle.ts_text.specs.Digits.{digit_count}
+use Rattle.ts_text.specs.Phrase.{digit_count}
 
 -- one digit more keeps a number of less than 38 digits below the limit
 pub digit_room : (n : ℕ) (s : List ℕ) (i : ℕ) → n < 10 ^ digit_count (take i s) → digit_count s ≤ 38 → i < length s → is_ascii_digit (slice_index_or s i 0) ≡ true → slice_index_or s i 0 ≤ 57 →

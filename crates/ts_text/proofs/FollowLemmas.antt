@@ -3,8 +3,7 @@ use Rattle.std.proofs.Common.{◌≡◌, ◌⊎◌, ℕ, zero, suc, ◌<◌, ◌
 use Rattle.std.proofs.Math.Seq.{take-append_seam}
 use Rattle.std.proofs.lemmas.Bool.{and_parts}
 use Rattle.ts_base.specs.Name.{is_blank}
-use Rattle.ts_text.specs.Blanks.{unblanked, are_blanks}
-use Rattle.ts_text.specs.Front.{Front}
+use Rattle.ts_text.specs.Phrase.{unblanked, are_blanks, Front}
 use Rattle.ts_text.proofs.FrontLemmas.{IsFront}
 use Rattle.ts_text.specs.Spelling.{Lexeme, spelled, AreTokens}
 use Rattle.ts_text.specs.declared.token.TokenKind.{TokenKind}

@@ -2,10 +2,8 @@
 use Rattle.std.proofs.Common.{◌≡◌, ℕ, zero, suc, ◌+◌, ◌<◌, ◌≤◌, ◌==◌, false, List, [], ◌∷◌, ◌++◌, length, Ok, Err, refl, sym, ◌∙◌, ap, subst, arith, append_assoc, inl, inr}
 use Rattle.std.proofs.lemmas.List.{append-nil}
 use Rattle.std.specs.List.{AllByRecursion}
-use Rattle.ts_text.specs.Blanks.{unblanked}
-use Rattle.ts_text.specs.Front.{Front}
+use Rattle.ts_text.specs.Phrase.{unblanked, Front, Read, Phrase, go_on, ◌>>=◌, give, a_sign, behind, phrases, repeated, closed, onto}
 use Rattle.ts_text.proofs.FrontLemmas.{IsFront, IsSign}
-use Rattle.ts_text.specs.Phrase.{Read, Phrase, go_on, ◌>>=◌, give, a_sign, behind, phrases, repeated, closed, onto}
 use Rattle.ts_text.specs.Misfit.{Refuses, RefusesExactly}
 use Rattle.ts_text.specs.declared.misfit.Misfit.{Misfit}
 use Rattle.ts_text.specs.declared.misfit.Misfit.TheVariants.{At, Memory}

@@ -1,7 +1,6 @@
 -- Phrases that a sign decides, and phrases that go on behind signs.
 use Rattle.std.proofs.Common.{◌≡◌, ℕ, zero, suc, ◌<◌, ◌≤◌, List, [], ◌∷◌, length, Option, Some, None, Ok, Err, refl, sym, ◌∙◌, ap, arith}
-use Rattle.ts_text.specs.Phrase.{Read, Phrase, go_on, ◌>>=◌, give, a_sign, made}
-use Rattle.ts_text.specs.Signs.{parted_by, if_sign, Signs, by_sign, onward_most, onward, joined_by, sign_in}
+use Rattle.ts_text.specs.Phrase.{Read, Phrase, go_on, ◌>>=◌, give, a_sign, made, parted_by, if_sign, Signs, by_sign, onward_most, onward, joined_by, sign_in}
 use Rattle.ts_text.proofs.PhraseLemmas.{Shrinks}
 use Rattle.ts_text.proofs.SignLemmas.{sign_shrinks}
 use Rattle.ts_text.proofs.PartedLemmas.{bind-ok, pair-parts}

@@ -8,17 +8,14 @@ use Rattle.std.proofs.lemmas.List.{length-take, append-nil, append_cancel_right}
 use Rattle.std.specs.List.{prefix_len}
 use Rattle.std.specs.Char.{is_ascii_digit}
 use Rattle.ts_base.specs.Name.{is_blank, is_word, continues_word}
-use Rattle.ts_text.specs.Blanks.{unblanked, are_blanks}
-use Rattle.ts_text.specs.Front.{Front}
+use Rattle.ts_text.specs.Phrase.{unblanked, are_blanks, Front, Read, Phrase, go_on, taken, taken_front, token, word_in, a_sign, the_end, plain_front, a_word}
 use Rattle.ts_text.proofs.FrontLemmas.{IsFront}
 use Rattle.ts_text.specs.Parted.{IsParted}
-use Rattle.ts_text.specs.Phrase.{Read, Phrase, go_on, taken, taken_front, token, word_in, a_sign, the_end}
 use Rattle.ts_text.specs.declared.token.TokenKind.{TokenKind}
 use Rattle.ts_text.proofs.SpellingLemmas.{blanked, unblanked_past}
 use Rattle.ts_text.proofs.TokenLemmas.{token_at}
 use Rattle.ts_text.proofs.SignLemmas.{sign_is, sign_at}
 use Rattle.ts_text.proofs.PlaceLemmas.{end_at, end_is}
-use Rattle.ts_text.specs.Plain.{plain_front, a_word}
 use Rattle.ts_text.specs.declared.token.TokenKind.TheVariants.{Word, Number, Text, Sign}
 use Rattle.ts_text.proofs.PlainLemmas.{plain_laws, word_stands, blank_ends_word}
 

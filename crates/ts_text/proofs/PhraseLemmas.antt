@@ -1,9 +1,8 @@
 -- Phrases take whole tokens from the front, are refused at the right place, and go on from there.
 use Rattle.std.proofs.Common.{◌≡◌, ℕ, ◌≤◌, List, [], ◌∷◌, ◌++◌, length, Ok, Err, refl, sym, ◌∙◌, ap, subst, append_assoc, inl, inr}
 use Rattle.std.proofs.lemmas.List.{append_cancel_right}
-use Rattle.ts_text.specs.Front.{Front}
+use Rattle.ts_text.specs.Phrase.{Front, Read, Phrase, go_on, ◌>>=◌, give}
 use Rattle.ts_text.proofs.FrontLemmas.{IsFront}
-use Rattle.ts_text.specs.Phrase.{Read, Phrase, go_on, ◌>>=◌, give}
 use Rattle.ts_text.proofs.SpellingLemmas.{Takes, Stops, takes_none, takes-le, split_same}
 use Rattle.ts_text.proofs.FollowLemmas.{Alike, StartsBlank, Follows, Carries, IsTaking, tokens_taking, stops_on, between}
 

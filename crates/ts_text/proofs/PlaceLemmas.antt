@@ -5,10 +5,8 @@ use Rattle.std.proofs.lemmas.Bool.{cases_Bool}
 use Rattle.std.proofs.lemmas.List.{length-take}
 use Rattle.std.proofs.lemmas.Slice.Eq.{bytes_eq-Decides}
 use Rattle.std.specs.Str.{bytes_eq}
-use Rattle.ts_text.specs.Blanks.{unblanked}
-use Rattle.ts_text.specs.Front.{Front}
+use Rattle.ts_text.specs.Phrase.{unblanked, Front, Read, Phrase, go_on, ◌>>=◌, give, the_end, ended, outcome}
 use Rattle.ts_text.proofs.FrontLemmas.{IsFront}
-use Rattle.ts_text.specs.Phrase.{Read, Phrase, go_on, ◌>>=◌, give, the_end, ended, outcome}
 use Rattle.ts_text.specs.Spelling.{Lexeme, Spells, AreItsTokens}
 use Rattle.ts_text.specs.Place.{everywhere, inside_or, RefusesInPlace}
 use Rattle.ts_text.specs.declared.token.TokenKind.{TokenKind}

@@ -6,9 +6,9 @@ use Rattle.std.proofs.lemmas.List.Sums.{prefix_len-le-length}
 use Rattle.std.specs.List.{prefix_len, list_all}
 use Rattle.std.specs.Char.{is_ascii_digit}
 use Rattle.ts_base.specs.Name.{is_blank, begins_word, continues_word, is_word}
-use Rattle.ts_base.specs.StampText.{all_digits}
+use Rattle.ts_base.specs.Moment.{all_digits}
 use Rattle.ts_text.proofs.FrontLemmas.{IsFront, IsSign}
-use Rattle.ts_text.specs.Plain.{is_sign, plain_front}
+use Rattle.ts_text.specs.Phrase.{is_sign, plain_front}
 use Rattle.ts_text.specs.declared.token.TokenKind.{TokenKind}
 use Rattle.ts_text.specs.declared.token.TokenKind.TheVariants.{Word, Number, Sign}
 use Rattle.ts_text.proofs.PlaceLemmas.{IsEnding}

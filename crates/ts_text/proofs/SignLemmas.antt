@@ -2,10 +2,8 @@
 use Rattle.std.proofs.Common.{◌≡◌, ℕ, zero, suc, cond, take, ◌<◌, ◌==◌, true, false, List, [], ◌∷◌, length, Option, Some, None, Ok, Err, refl, sym, ◌∙◌, ap, arith, inl, inr}
 use Rattle.std.proofs.lemmas.Bool.{cases_Bool}
 use Rattle.std.proofs.lemmas.Bool.Decides.{nat_tests}
-use Rattle.ts_text.specs.Blanks.{unblanked}
-use Rattle.ts_text.specs.Front.{Front}
+use Rattle.ts_text.specs.Phrase.{unblanked, Front, Phrase, ◌>>=◌, behind_byte, a_sign, behind, in_brackets, made, give, token, taken, taken_front}
 use Rattle.ts_text.proofs.FrontLemmas.{IsFront, IsSign}
-use Rattle.ts_text.specs.Phrase.{Phrase, ◌>>=◌, behind_byte, a_sign, behind, in_brackets, made, give, token, taken, taken_front}
 use Rattle.ts_text.specs.declared.token.TokenKind.{TokenKind}
 use Rattle.ts_text.specs.declared.token.TokenKind.TheVariants.{Sign}
 use Rattle.ts_text.proofs.SpellingLemmas.{unblanked-le}

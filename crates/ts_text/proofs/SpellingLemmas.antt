@@ -5,8 +5,7 @@ use Rattle.std.proofs.lemmas.Bool.{cases_Bool, and_parts}
 use Rattle.std.proofs.lemmas.List.{append-nil, append_cancel_left, length-take}
 use Rattle.std.proofs.lemmas.Grind.{flat_map-append}
 use Rattle.ts_base.specs.Name.{is_blank}
-use Rattle.ts_text.specs.Blanks.{unblanked, are_blanks}
-use Rattle.ts_text.specs.Front.{Front}
+use Rattle.ts_text.specs.Phrase.{unblanked, are_blanks, Front}
 use Rattle.ts_text.proofs.FrontLemmas.{IsFront}
 use Rattle.ts_text.specs.Spelling.{Lexeme, spelled, AreTokens, Spells}
 use Rattle.ts_text.specs.declared.token.TokenKind.{TokenKind}

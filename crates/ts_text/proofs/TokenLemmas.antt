@@ -4,10 +4,8 @@ use Rattle.std.proofs.Math.Seq.{take-append_seam, drop-append_seam}
 use Rattle.std.proofs.lemmas.List.{append-nil, length-take}
 use Rattle.std.proofs.lemmas.List.Folds.{list_all-append}
 use Rattle.ts_base.specs.Name.{is_blank}
-use Rattle.ts_text.specs.Blanks.{unblanked, are_blanks}
-use Rattle.ts_text.specs.Front.{Front}
+use Rattle.ts_text.specs.Phrase.{unblanked, are_blanks, Front, taken, taken_front, token}
 use Rattle.ts_text.proofs.FrontLemmas.{IsFront}
-use Rattle.ts_text.specs.Phrase.{taken, taken_front, token}
 use Rattle.ts_text.specs.declared.token.TokenKind.{TokenKind}
 use Rattle.ts_text.proofs.SpellingLemmas.{Takes, takes_token, unblanked-le, blanked, unblanked_past, split_same, blanks_before}
 use Rattle.ts_text.proofs.FollowLemmas.{Alike, Follows, tokens_taking, stops_here, front_unblanked, keeps_token}

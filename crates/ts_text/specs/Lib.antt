@@ -1,10 +1,5 @@
-pub mod Blanks
-pub mod Digits
-pub mod Front
 pub mod Misfit
 pub mod Parted
 pub mod Phrase
 pub mod Place
-pub mod Plain
-pub mod Signs
 pub mod Spelling

@@ -1,6 +1,6 @@
 -- Texts as tokens with blanks between them.
 use Rattle.std.specs.Prelude.{◌≡◌, ℕ, List, [], ◌∷◌, ◌++◌, IsTrue}
-use Rattle.ts_text.specs.Blanks.{are_blanks}
+use Rattle.ts_text.specs.Phrase.{are_blanks}
 
 -- the text is these tokens in their order, with any number of blanks before, between and after
 abbrev pub IsParted : List (List ℕ) → List ℕ → Type 0

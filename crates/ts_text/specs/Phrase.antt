@@ -1,12 +1,42 @@
--- How phrases of a grammar are read.
-use Rattle.std.specs.Prelude.{ℕ, zero, suc, ◌-◌, ◌==◌, if◌then◌else◌, List, [], ◌∷◌, ◌++◌, length, take, drop, Option}
-use Rattle.std.specs.Prelude.{Some, None, Result, Ok, Err}
+-- How phrases of a grammar are read: the token in front, blanks, phrases, signs, and the tokens of plain texts.
+use Rattle.std.specs.Prelude.{ℕ, ◌+◌, zero, suc, ◌-◌, ◌==◌, ◌||◌, Bool, if◌then◌else◌, List, Option, filter, count_by}
+use Rattle.std.specs.Prelude.{[], ◌∷◌, ◌++◌, length, take, drop, Some, None, Result, Ok, Err}
 use Rattle.std.specs.Str.{bytes_eq}
-use Rattle.ts_base.specs.Name.{name_if_any}
-use Rattle.ts_text.specs.Blanks.{unblanked}
-use Rattle.ts_text.specs.Front.{Front}
+use Rattle.std.specs.Char.{is_ascii_digit}
+use Rattle.std.specs.List.{list_all, prefix_len}
+use Rattle.ts_base.specs.Moment.{number_of}
+use Rattle.ts_base.specs.Name.{is_blank, name_if_any, begins_word, continues_word}
 use Rattle.ts_text.specs.declared.token.TokenKind.{TokenKind}
-use Rattle.ts_text.specs.declared.token.TokenKind.TheVariants.{Word}
+use Rattle.ts_text.specs.declared.token.TokenKind.TheVariants.{Word, Number, Sign}
+
+-- Blanks between tokens.
+
+-- the bytes without the blanks in front
+abbrev pub unblanked : List ℕ → List ℕ
+unblanked [] = []
+unblanked (b ∷ bytes) = if is_blank b then unblanked bytes else b ∷ bytes
+
+-- nothing but blanks
+abbrev pub are_blanks : List ℕ → Bool
+are_blanks = list_all is_blank
+
+-- The number that digits write.
+
+-- how many digits a token has
+abbrev pub digit_count : List ℕ → ℕ
+digit_count token = count_by is_ascii_digit token
+
+-- the number that its digits write, whatever stands between them
+abbrev pub magnitude_of : List ℕ → ℕ
+magnitude_of token = number_of (filter is_ascii_digit token)
+
+-- What a grammar takes for a token: the kind and the length of the one that stands in front, if one does.
+
+-- the token in front
+abbrev pub Front : Type 0
+Front = List ℕ → Option (TokenKind × ℕ)
+
+-- How phrases of a grammar are read.
 
 -- what a phrase is read as, and the bytes behind it; or how many bytes are left from the first that can't stand there
 abbrev pub Read : Type 0 → Type 0
@@ -126,3 +156,71 @@ ended ending phrase = do
 abbrev pub outcome : {A : Type 0} → ℕ → Read A → Result A ℕ
 outcome size (Ok found) = Ok found.0
 outcome size (Err left) = Err (size - left)
+
+-- Phrases that a sign decides, and phrases with signs between them.
+
+-- behind a sign that was read one phrase, and else another
+abbrev pub parted_by : {A : Type 0} → Read (Unit {0}) → Phrase A → Phrase A → Phrase A
+parted_by (Ok sign) behind other = λ bytes. behind sign.1
+parted_by (Err left) behind other = other
+
+-- one phrase behind this sign; where it doesn't stand, another
+abbrev pub if_sign : {A : Type 0} → ℕ → Phrase A → Phrase A → Phrase A
+if_sign sign behind other = λ bytes. parted_by (a_sign sign bytes) behind other bytes
+
+-- signs, and what each of them means
+abbrev pub Signs : Type 0 → Type 0
+Signs M = List (ℕ × M)
+
+-- a phrase behind the first of some signs that stands there, by what it means; where none does, another
+abbrev pub by_sign : {M A : Type 0} → Signs M → (M → Phrase A) → Phrase A → Phrase A
+by_sign [] behind other = other
+by_sign (sign ∷ signs) behind other = if_sign sign.0 (behind sign.1) (by_sign signs behind other)
+
+-- what was read goes on by at most so many more phrases, each behind a sign and joined to all that stands before it
+abbrev pub onward_most : {M A : Type 0} → (M → A → A → A) → Signs M → Phrase A → ℕ → A → Phrase A
+onward_most join signs phrase zero before = give before
+onward_most join signs phrase (suc n) before =
+    by_sign signs (λ meaning. phrase >>= (λ next. onward_most join signs phrase n (join meaning before next)))
+    (give before)
+
+-- by as many as stand there
+unfoldable pub onward : {M A : Type 0} → (M → A → A → A) → Signs M → Phrase A → A → Phrase A
+onward join signs phrase before = λ bytes. onward_most join signs phrase (length bytes) before bytes
+
+-- phrases with signs between them, joined from left to right
+abbrev pub joined_by : {M A : Type 0} → (M → A → A → A) → Signs M → Phrase A → Phrase A
+joined_by join signs phrase = phrase >>= (λ first. onward join signs phrase first)
+
+-- the sign that stands in front, if one of these does: what it means, and the bytes behind it
+abbrev pub sign_or : {M : Type 0} → M → Read (Unit {0}) → Option (M × List ℕ) → Option (M × List ℕ)
+sign_or meaning (Ok sign) others = Some (meaning, sign.1)
+sign_or meaning (Err left) others = others
+
+abbrev pub sign_in : {M : Type 0} → Signs M → List ℕ → Option (M × List ℕ)
+sign_in [] bytes = None
+sign_in (sign ∷ signs) bytes = sign_or sign.1 (a_sign sign.0 bytes) (sign_in signs bytes)
+
+-- The tokens of patterns, calendars and lists of aggregates: words, digits and signs, each the longest that stands
+-- there.
+
+-- how many digits stand in front, of which at most so many count
+abbrev pub digits_in_front : ℕ → List ℕ → ℕ
+digits_in_front room bytes = prefix_len is_ascii_digit (take room bytes)
+
+-- one of `{` `}` `(` `)` `,` `$`
+abbrev pub is_sign : ℕ → Bool
+is_sign b = b == 123 || b == 125 || b == 40 || b == 41 || b == 44 || b == 36
+
+-- the token that stands in front, if one does: its kind and its length
+unfoldable pub plain_front : List ℕ → Option (TokenKind × ℕ)
+plain_front [] = None
+plain_front (b ∷ bytes) =
+    if begins_word b then Some (Word, 1 + prefix_len continues_word bytes)
+    else (if is_ascii_digit b then Some (Number, 1 + prefix_len is_ascii_digit bytes)
+    else (if is_sign b then Some (Sign, 1)
+    else None))
+
+-- this word
+unfoldable pub a_word : List ℕ → Phrase (Unit {0})
+a_word wanted = token plain_front (word_in wanted)

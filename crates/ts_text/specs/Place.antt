@@ -1,6 +1,6 @@
 -- The place at which a text is refused.
 use Rattle.std.specs.Prelude.{◌≡◌, ◌⊎◌, ℕ, List, ◌∷◌, ◌++◌, take, drop, Some, Result, Ok, Err}
-use Rattle.ts_text.specs.Front.{Front}
+use Rattle.ts_text.specs.Phrase.{Front}
 use Rattle.ts_text.specs.declared.token.TokenKind.{TokenKind}
 
 -- one front, whatever stands before

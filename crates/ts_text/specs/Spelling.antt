@@ -1,8 +1,7 @@
 -- Bytes as the tokens that they are, with blanks between them.
 use Rattle.std.specs.Prelude.{◌≡◌, ℕ, ◌-◌, List, [], ◌∷◌, ◌++◌, length, Some, IsTrue, Result, Ok, Err}
 use Rattle.std.specs.List.{flat_map}
-use Rattle.ts_text.specs.Blanks.{unblanked, are_blanks}
-use Rattle.ts_text.specs.Front.{Front}
+use Rattle.ts_text.specs.Phrase.{unblanked, are_blanks, Front}
 use Rattle.ts_text.specs.declared.token.TokenKind.{TokenKind}
 
 -- a token, and the blanks in front of it

@@ -1,6 +1,6 @@
 // Blanks between tokens.
 ghost use Rattle.std.specs.Prelude.{◌≡◌, ◌≤◌, length};
-ghost use Rattle.ts_text.specs.Blanks.{unblanked};
+ghost use Rattle.ts_text.specs.Phrase.{unblanked};
 
 use ts_base::is_blank;
 

@@ -4,8 +4,8 @@ ghost use Rattle.std.specs.List.{list_all};
 ghost use Rattle.std.specs.Char.{is_ascii_digit};
 ghost use Rattle.std.specs.Fmt.{decimal};
 ghost use Rattle.ts_base.specs.Answer.{Extends};
-ghost use Rattle.ts_base.specs.StampText.{all_digits, number_of};
-ghost use Rattle.ts_text.specs.Digits.{digit_count, magnitude_of};
+ghost use Rattle.ts_base.specs.Moment.{all_digits, number_of};
+ghost use Rattle.ts_text.specs.Phrase.{digit_count, magnitude_of};
 
 use std::alloc::AllocError;
 use ts_base::Bytes;

@@ -1,9 +1,9 @@
 //! What every grammar of texts stands on. A text is its tokens with blanks between them (`specs/Spelling`); a grammar
-//! is made of phrases (`specs/Phrase`) over what it takes for a token (`specs/Front`), and where it refuses a text it
-//! says so at the one right place: what stands before goes on to a text of the grammar, and with the token at the place
-//! nothing does, whatever comes behind it that leaves it this token (`specs/Place`); nothing is said of bytes that
-//! begin no token. The tokens of patterns, calendars and lists of aggregates are in `specs/Plain`. Stands on ts_base
-//! alone; knows no grammar. Read `specs/Phrase.antt`, `specs/Place.antt`, then `sign.rt`.
+//! is made of phrases over what it takes for a token (`specs/Phrase`), and where it refuses a text it says so at the
+//! one right place: what stands before goes on to a text of the grammar, and with the token at the place nothing does,
+//! whatever comes behind it that leaves it this token (`specs/Place`); nothing is said of bytes that begin no token.
+//! The tokens of patterns, calendars and lists of aggregates stand there too. Stands on ts_base alone; knows no
+//! grammar. Read `specs/Phrase.antt`, `specs/Place.antt`, then `sign.rt`.
 #![tactic(auto)]
 
 mod blanks;

@@ -1,7 +1,7 @@
 // The tokens of patterns, calendars and lists of aggregates.
 ghost use Rattle.std.specs.Prelude.{◌≡◌, ◌≤◌, Ok, IfOk, IfErr, IfSome, length};
 ghost use Rattle.ts_text.specs.Misfit.{RefusesExactly};
-ghost use Rattle.ts_text.specs.Plain.{is_sign, plain_front, a_word};
+ghost use Rattle.ts_text.specs.Phrase.{is_sign, plain_front, a_word};
 
 use crate::blanks::skip_blanks;
 use crate::misfit::Misfit;
@@ -9,7 +9,7 @@ use crate::token::{TokenKind, digits_in_front, word_bytes};
 use ts_base::begins_word;
 
 /// The token that stands in front, if one does: its kind and its length.
-#[tactic(auto, unfolding(crate::specs::Plain::plain_front))]
+#[tactic(auto, unfolding(crate::specs::Phrase::plain_front))]
 pub fn plain_front(bytes: &[u8]) -> Option<(TokenKind, usize)>
     ensures value { result ≡ plain_front bytes.now }
     ensures within { IfSome result (λ token. token.1 ≤ length bytes.now) }
@@ -36,7 +36,7 @@ fn is_sign(byte: u8) -> bool
 }
 
 /// The bytes behind this word.
-#[tactic(auto, unfolding(crate::specs::Plain::a_word))]
+#[tactic(auto, unfolding(crate::specs::Phrase::a_word))]
 pub fn read_word<'a>(bytes: &'a [u8], wanted: &[u8]) -> Result<&'a [u8], Misfit>
     ensures ok { IfOk result (λ rest. a_word wanted.now bytes.now ≡ Ok (tt, rest.now)) }
     ensures cause { IfErr result (λ misfit. RefusesExactly misfit (a_word wanted.now bytes.now)) }

@@ -1,7 +1,6 @@
 // Signs, and the end of a text.
 ghost use Rattle.std.specs.Prelude.{◌≡◌, ◌<◌, [], Ok, Err, IfOk, IfErr, IfSome, IfNone, length};
-ghost use Rattle.ts_text.specs.Blanks.{unblanked};
-ghost use Rattle.ts_text.specs.Phrase.{a_sign, the_end};
+ghost use Rattle.ts_text.specs.Phrase.{unblanked, a_sign, the_end};
 ghost use Rattle.ts_text.specs.Misfit.{RefusesExactly};
 
 use crate::blanks::skip_blanks;

@@ -2,7 +2,7 @@
 ghost use Rattle.std.specs.Prelude.{◌≡◌, ◌≤◌, length};
 ghost use Rattle.std.specs.List.{prefix_len};
 ghost use Rattle.ts_base.specs.Name.{continues_word};
-ghost use Rattle.ts_text.specs.Plain.{digits_in_front};
+ghost use Rattle.ts_text.specs.Phrase.{digits_in_front};
 
 use ts_base::continues_word;
 

@@ -7,7 +7,7 @@ use Rattle.std.proofs.lemmas.List.Folds.{list_all-append}
 use Rattle.std.specs.List.{prefix_len, list_all}
 use Rattle.std.specs.Char.{is_ascii_digit}
 use Rattle.ts_base.specs.Name.{is_blank, begins_word, continues_word, is_text_byte}
-use Rattle.ts_text.specs.Digits.{digit_count}
+use Rattle.ts_text.specs.Phrase.{digit_count}
 use Rattle.ts_tokens.specs.NumberForm.{IsMagnitude, HasSign, IsNumber}
 use Rattle.ts_tokens.specs.Tokens.{number_length, magnitude_length, closing, later, or_before, of_kind, front}
 use Rattle.ts_text.specs.declared.token.TokenKind.{TokenKind}

@@ -8,10 +8,9 @@ use Rattle.std.proofs.lemmas.List.Sums.{sum_by-append}
 use Rattle.std.specs.List.{list_all}
 use Rattle.std.specs.Char.{is_ascii_digit}
 use Rattle.ts_tokens.proofs.RunLemmas.{short_run_passes}
-use Rattle.ts_text.specs.Digits.{digit_count}
+use Rattle.ts_text.specs.Phrase.{digit_count, digits_in_front}
 use Rattle.ts_tokens.specs.NumberForm.{are_digits, IsMagnitude, HasSign, IsNumber}
 use Rattle.ts_tokens.specs.Tokens.{fraction_length, magnitude_length, signed_length, number_length}
-use Rattle.ts_text.specs.Plain.{digits_in_front}
 use Rattle.ts_tokens.proofs.TokenLengths.{number_digits, digits_in_front-within}
 
 -- the two parts of what digits are

@@ -4,7 +4,7 @@ use Rattle.std.specs.List.{list_any}
 use Rattle.std.proofs.lemmas.List.{append-nil, take_all, length-drop, length-take}
 use Rattle.std.proofs.lemmas.Bool.{cases_Bool}
 use Rattle.std.proofs.lemmas.Bool.Decides.{nat_tests}
-use Rattle.ts_tokens.specs.Text.{undoubled, said}
+use Rattle.ts_tokens.specs.Tokens.{undoubled, said}
 
 -- a byte more
 pub undoubled-cons : (b : ℕ) (bytes : List ℕ) → undoubled (b ∷ bytes) ≡ b ∷ undoubled (if b == 39 && slice_index bytes 0 == 39 then drop 1 bytes else bytes)

@@ -10,8 +10,7 @@ use Rattle.std.specs.Char.{is_ascii_digit}
 use Rattle.ts_base.specs.Name.{begins_word, continues_word, is_text_byte}
 use Rattle.std.proofs.lemmas.List.Sums.{prefix_len-le-length}
 use Rattle.ts_tokens.specs.Tokens.{with_point, fraction_length, magnitude_length, number_length, signed_length, closing, later, or_before, of_kind, front}
-use Rattle.ts_text.specs.Plain.{digits_in_front}
-use Rattle.ts_text.specs.Digits.{digit_count}
+use Rattle.ts_text.specs.Phrase.{digits_in_front, digit_count}
 use Rattle.ts_text.specs.declared.token.TokenKind.{TokenKind}
 use Rattle.ts_text.specs.declared.token.TokenKind.TheVariants.{Word, Number, Text, Sign}
 use Rattle.ts_text.proofs.CallerLemmas.{token_is}

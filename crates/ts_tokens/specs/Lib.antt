@@ -1,5 +1,3 @@
 pub mod Tokens
 pub mod NumberForm
 pub mod TextForm
-pub mod Number
-pub mod Text

@@ -2,7 +2,7 @@
 use Rattle.std.specs.Prelude.{◌≡◌, ℕ, ◌⊎◌, ◌≤◌, Bool, ◌&&◌, nat_le, List, ◌∷◌, ◌++◌, length, IsTrue}
 use Rattle.std.specs.List.{list_all}
 use Rattle.std.specs.Char.{is_ascii_digit}
-use Rattle.ts_text.specs.Digits.{digit_count}
+use Rattle.ts_text.specs.Phrase.{digit_count}
 
 -- digits, one at least
 abbrev pub are_digits : List ℕ → Bool

@@ -1,10 +1,13 @@
--- The tokens of a statement, each the longest that stands there.
-use Rattle.std.specs.Prelude.{ℕ, ◌+◌, ◌-◌, ◌==◌, ◌||◌, if◌then◌else◌, List, [], ◌∷◌, drop, Option, Some, None}
+-- The tokens of a statement, and what a text and a number say.
+use Rattle.std.specs.Prelude.{ℕ, ◌+◌, ◌-◌, ◌==◌, ◌&&◌, ◌||◌, if◌then◌else◌, List, [], ◌∷◌, length, slice_index}
+use Rattle.std.specs.Prelude.{position, take, drop, Option, Some, None, ℤ, pos, neg_ℤ}
 use Rattle.std.specs.List.{prefix_len}
 use Rattle.ts_base.specs.Name.{begins_word, continues_word, is_text_byte}
-use Rattle.ts_text.specs.Plain.{digits_in_front}
+use Rattle.ts_text.specs.Phrase.{magnitude_of, digits_in_front}
 use Rattle.ts_text.specs.declared.token.TokenKind.{TokenKind}
 use Rattle.ts_text.specs.declared.token.TokenKind.TheVariants.{Word, Number, Text, Sign}
+
+-- The tokens of a statement, each the longest that stands there.
 
 -- a point and digits, if there is a digit
 abbrev pub with_point : ℕ → ℕ
@@ -62,3 +65,33 @@ front (b ∷ bytes) =
     else (if b == 39 then of_kind Text (later 1 (closing bytes))
     else (if b == 40 || b == 41 || b == 44 then Some (Sign, 1)
     else of_kind Number (number_length (b ∷ bytes))))
+
+-- What a text token says.
+
+-- a doubled quote stands for one
+unfoldable pub undoubled : List ℕ → List ℕ
+undoubled [] = []
+undoubled (b ∷ []) = b ∷ []
+undoubled (b ∷ c ∷ bytes) = if b == 39 && c == 39 then 39 ∷ undoubled bytes else b ∷ undoubled (c ∷ bytes)
+
+-- what stands between the quotes of a token
+abbrev pub between_quotes : List ℕ → List ℕ
+between_quotes token = take (length token - 2) (drop 1 token)
+
+-- the bytes that a text token says
+abbrev pub said : List ℕ → List ℕ
+said token = undoubled (between_quotes token)
+
+-- The number that a token writes.
+
+-- the number without its point, with its sign
+abbrev pub units_of : List ℕ → ℤ
+units_of token = if slice_index token 0 == 45 then neg_ℤ (pos (magnitude_of token)) else pos (magnitude_of token)
+
+-- how many bytes stand behind the point, if there is one
+abbrev pub behind_point : List ℕ → Option ℕ → ℕ
+behind_point token None = 0
+behind_point token (Some point) = length token - (point + 1)
+
+abbrev pub scale_of : List ℕ → ℕ
+scale_of token = behind_point token (position (λ b. b == 46) token)

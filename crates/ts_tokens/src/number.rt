@@ -1,7 +1,7 @@
 // The number that a token writes.
 ghost use Rattle.std.specs.Prelude.{◌≡◌, ◌<◌, ◌≤◌, ◌==◌, length, slice_index, position, IfSome};
-ghost use Rattle.ts_tokens.specs.Number.{units_of, scale_of};
-ghost use Rattle.ts_text.specs.Digits.{digit_count};
+ghost use Rattle.ts_tokens.specs.Tokens.{units_of, scale_of};
+ghost use Rattle.ts_text.specs.Phrase.{digit_count};
 
 use ts_text::magnitude;
 

@@ -2,8 +2,8 @@
 ghost use Rattle.std.specs.Prelude.{◌≡◌, ◌==◌, ◌&&◌, ◌≤◌, ◌++◌, IfOk, length, drop, slice_index, if◌then◌else◌};
 ghost use Rattle.std.specs.List.{list_any};
 ghost use Rattle.ts_base.specs.Name.{key_if_any};
-ghost use Rattle.ts_base.specs.StampText.{read_stamp};
-ghost use Rattle.ts_tokens.specs.Text.{undoubled, between_quotes, said};
+ghost use Rattle.ts_base.specs.Moment.{read_stamp};
+ghost use Rattle.ts_tokens.specs.Tokens.{undoubled, between_quotes, said};
 
 use std::alloc::{AllocError, Global};
 use ts_base::{Bytes, Key, Stamp};

@@ -4,7 +4,7 @@ use Rattle.std.specs.Option.{IsSome}
 use Rattle.ts_page.specs.declared.page.Page.{Page}
 use Rattle.ts_page.specs.Pages.{Contents, EqualPages, SameButFreed}
 use Rattle.ts_space.specs.Directory.{Directory}
-use Rattle.ts_journal.specs.Entry.{Entry, change_of, over}
+use Rattle.ts_journal.specs.Journal.{Entry, change_of, over}
 use Rattle.ts_model.specs.Definitions.{Definitions}
 use Rattle.ts_model.specs.Catalogue.{Catalogue}
 use Rattle.ts_layout.specs.Placed.{AreKept}

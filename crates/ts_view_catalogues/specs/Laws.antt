@@ -3,7 +3,7 @@ use Rattle.std.specs.Prelude.{◌≡◌, ℕ, Bool, IsTrue, List, [], reverse}
 use Rattle.std.specs.Option.{IsSome}
 use Rattle.ts_page.specs.declared.page.Page.{Page}
 use Rattle.ts_page.specs.Pages.{Contents, SameButFreed}
-use Rattle.ts_journal.specs.Entry.{Entry, change_of, over}
+use Rattle.ts_journal.specs.Journal.{Entry, change_of, over}
 use Rattle.ts_model.specs.Catalogue.{Catalogue}
 use Rattle.ts_layout.specs.Meaning.{Means}
 use Rattle.ts_views.specs.declared.view.View.{View}

@@ -6,7 +6,7 @@ use Rattle.ts_page.specs.Pages.{IsElementPage, HasFreeHead, EqualPages, SameButF
 use Rattle.ts_page.proofs.PagesLemmas.{same_trans, same_from_equal}
 use Rattle.ts_journal.specs.declared.batch.Change.{Change}
 use Rattle.ts_journal.specs.declared.batch.Change.TheVariants.{Image}
-use Rattle.ts_journal.specs.Entry.{Entry, change_of, changed, over, put}
+use Rattle.ts_journal.specs.Journal.{Entry, change_of, changed, over, put}
 use Rattle.ts_journal.proofs.CallerLemmas.{over_put, change_of-put}
 use Rattle.ts_views.specs.Pages.{view_pages, keep_image}
 use Rattle.ts_views.specs.Laws.{Covers, keep_images, AreOf, HasNumber, KeepLeavesView, KeepCovers, CommitLeavesView, KeptCommitLeavesView}

@@ -5,7 +5,7 @@ use Rattle.ts_page.specs.Pages.{Contents, IsLawful, IsElementPage, with_page, Pu
 use Rattle.ts_page.proofs.PagesLemmas.{few_free, lawful_put, lawful_freed, lawful_taken}
 use Rattle.ts_journal.specs.declared.batch.Change.{Change}
 use Rattle.ts_journal.specs.declared.batch.Change.TheVariants.{Free}
-use Rattle.ts_journal.specs.Entry.{Entry, content, over, put}
+use Rattle.ts_journal.specs.Journal.{Entry, content, over, put}
 use Rattle.ts_journal.proofs.CallerLemmas.{over_put}
 use Rattle.ts_views.specs.Pages.{view_pages, view_contents}
 

@@ -2,7 +2,7 @@
 use Rattle.std.proofs.Common.{◌≡◌, inl, inr, ℕ, Option, Some, None, IsSome, IfSome, List, ap, ◌∙◌, sym, subst}
 use Rattle.ts_page.specs.declared.page.Page.{Page}
 use Rattle.ts_page.specs.Pages.{EqualPages, SameButFreed}
-use Rattle.ts_journal.specs.Entry.{Entry, change_of, over}
+use Rattle.ts_journal.specs.Journal.{Entry, change_of, over}
 use Rattle.ts_views.specs.declared.view.View.{View}
 use Rattle.ts_views.specs.Pages.{view_pages, keep_image}
 use Rattle.ts_views.specs.View.{view_of, pages_of, HasImage, KeepsImage, MayKeepImage, Turns, EachTurns}

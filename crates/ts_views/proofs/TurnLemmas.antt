@@ -6,7 +6,7 @@ use Rattle.std.proofs.lemmas.List.{get_or-set_same, get_or-set_other, get_or_pas
 use Rattle.ts_page.specs.declared.page.Page.{Page}
 use Rattle.ts_views.specs.declared.view.View.{View}
 use Rattle.ts_journal.specs.declared.batch.Change.{Change}
-use Rattle.ts_journal.specs.Entry.{change_of}
+use Rattle.ts_journal.specs.Journal.{change_of}
 use Rattle.ts_views.specs.View.{view_of, lacks_image, HasImage, KeepsImage, MayKeepImage, OfEachOpen, Turns, EachTurns}
 
 abbrev pub Relation : Type 1

@@ -3,7 +3,7 @@ use Rattle.std.specs.Prelude.{◌≡◌, ◌⊎◌, ℕ, Option, List, [], ◌�
 use Rattle.std.specs.Option.{IsSome}
 use Rattle.ts_page.specs.declared.page.Page.{Page}
 use Rattle.ts_page.specs.Pages.{EqualPages, SameButFreed}
-use Rattle.ts_journal.specs.Entry.{Entry, change_of, over}
+use Rattle.ts_journal.specs.Journal.{Entry, change_of, over}
 use Rattle.ts_views.specs.declared.view.View.{View}
 use Rattle.ts_views.specs.Pages.{view_pages, keep_image}
 use Rattle.ts_views.specs.View.{pages_of, HasImage, KeepsImage, MayKeepImage, OfEachOpen, EachTurns}

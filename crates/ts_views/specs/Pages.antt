@@ -5,7 +5,7 @@ use Rattle.ts_page.specs.declared.page.Page.{Page}
 use Rattle.ts_page.specs.Pages.{Contents}
 use Rattle.ts_journal.specs.declared.batch.Change.{Change}
 use Rattle.ts_journal.specs.declared.batch.Change.TheVariants.{Image}
-use Rattle.ts_journal.specs.Entry.{Entry, change_of, change_or, over, put}
+use Rattle.ts_journal.specs.Journal.{Entry, change_of, change_or, over, put}
 
 -- the change that a view shows of a page: of the command in hand, else of its own, else an old image
 abbrev pub change_shown : ℕ → List Entry → List Entry → List Entry → Option Change

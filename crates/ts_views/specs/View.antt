@@ -2,7 +2,7 @@
 use Rattle.std.specs.Prelude.{◌≡◌, ◌⊎◌, ℕ, Bool, false, List, length, slice_index_or, Option, Some, None, IfSome}
 use Rattle.std.specs.Option.{is_none, IsSome}
 use Rattle.ts_page.specs.declared.page.Page.{Page}
-use Rattle.ts_journal.specs.Entry.{change_of}
+use Rattle.ts_journal.specs.Journal.{change_of}
 use Rattle.ts_views.specs.declared.view.View.{View}
 use Rattle.ts_views.specs.Pages.{view_pages, keep_image}
 

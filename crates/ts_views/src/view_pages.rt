@@ -3,7 +3,7 @@ ghost use Rattle.std.specs.Prelude.{◌≡◌, ◌<◌, ◌^◌, reverse};
 ghost use Rattle.std.specs.Option.{option_copied};
 ghost use Rattle.std.proofs.Props.{props};
 ghost use Rattle.ts_page.specs.Pages.{IsLawful};
-ghost use Rattle.ts_journal.specs.Entry.{content};
+ghost use Rattle.ts_journal.specs.Journal.{content};
 ghost use Rattle.ts_views.specs.Pages.{change_shown, view_contents};
 
 use ts_base::StoreFault;

@@ -3,14 +3,13 @@ use Rattle.std.specs.Prelude.{All}
 use Rattle.std.proofs.Common.{◌≡◌, ℕ, ℤ, ◌+◌, ◌-◌, ◌<◌, ◌≤◌, Option, Some, None, List, length, refl, sym, ap, ◌∙◌, subst, arith, inl, inr}
 use Rattle.std.specs.Option.{IfSome}
 use Rattle.ts_row.specs.declared.kind.Column.{Column}
-use Rattle.ts_page.specs.Volume.{first_element_page}
+use Rattle.ts_page.specs.Pages.{first_element_page}
 use Rattle.ts_offset.specs.declared.shape.Shape.{Shape}
 use Rattle.ts_offset.specs.declared.shape.Shape.TheVariants.{Irregular, Regular}
 use Rattle.ts_model.specs.Catalogue.{Catalogue}
 use Rattle.ts_model.specs.Definitions.{Definitions, at_slot, def_at}
-use Rattle.ts_layout.specs.Limits.{IsSlotOf}
+use Rattle.ts_layout.specs.Meaning.{IsSlotOf, Layout, Cells, element_page, sheets_of, shape_at, sum_of_quotas, IsOnCalendar, HoldsSeries, HoldsElements, IsLaidOut, Means}
 use Rattle.ts_layout.specs.Sheets.{Sheet, HoldsSheet}
-use Rattle.ts_layout.specs.Meaning.{Layout, Cells, element_page, sheets_of, shape_at, sum_of_quotas, IsOnCalendar, HoldsSeries, HoldsElements, IsLaidOut, Means}
 use Rattle.ts_layout.proofs.CallerLemmas.{one_of, within_list, sheets_each}
 use Rattle.ts_journal.specs.Journal.{IsVolumeSize, page_count, records, pages}
 use Rattle.ts_volume.specs.Volume.{MeansCatalogue, MeansNothing}

@@ -1,8 +1,7 @@
 -- What bytes mean by the layout that their pages hold.
 pub use Rattle.ts_volume.proofs.BadPageLemmas.{nothing_meant}
 use Rattle.std.proofs.Common.{◌≡◌, ℕ, ◌+◌, List, Some, None, length, refl, ap, sym, ◌∙◌, subst}
-use Rattle.ts_page.specs.Pages.{SameButFreed}
-use Rattle.ts_page.specs.Volume.{first_element_page}
+use Rattle.ts_page.specs.Pages.{SameButFreed, first_element_page}
 use Rattle.ts_journal.specs.Journal.{IsVolumeSize, page_count, pages, records}
 use Rattle.ts_model.specs.Catalogue.{Catalogue}
 use Rattle.ts_layout.specs.Meaning.{Layout, HoldsLayout, IsSound, IsLaidOut, catalogue_of}

@@ -1,13 +1,12 @@
 -- There is one first bad page at most, and it is one of the pages.
 use Rattle.std.proofs.Common.{◌≡◌, ℕ, ◌+◌, ◌<◌, ◌≤◌, ◌⊎◌, None, Some, List, [], ◌∷◌, length, refl, sym, ap, ◌∙◌, arith, inl, inr, lit<, lit≤}
-use Rattle.ts_page.specs.Volume.{first_element_page}
+use Rattle.ts_page.specs.Pages.{first_element_page}
 use Rattle.ts_model.specs.declared.kind.Kind.{Kind}
 use Rattle.ts_model.specs.declared.kind.Kind.TheVariants as kinds
 use Rattle.ts_model.specs.Definitions.{limit}
 use Rattle.ts_layout.specs.Slot.{page_of_slot}
 use Rattle.ts_layout.proofs.CallerLemmas.{page_high, within_list}
-use Rattle.ts_journal.specs.Entry.{Entry}
-use Rattle.ts_journal.specs.Journal.{IsVolumeSize, page_count, records, pages}
+use Rattle.ts_journal.specs.Journal.{Entry, IsVolumeSize, page_count, records, pages}
 use Rattle.ts_volume.specs.FirstBad.{IsLeast, HasNone, Step, Header, Slots, Names, Rules, Grants, Elements, Overlaps, Neighbours, Charges, Finds, IsFirstIn, all_steps, IsFirstBad, IsFirstBadOf}
 use Rattle.ts_volume.specs.FirstBadLaws.{ThereIsOneFirstBadPage, FirstBadPagesAreWithin}
 

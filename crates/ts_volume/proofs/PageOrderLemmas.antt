@@ -8,10 +8,9 @@ use Rattle.std.proofs.lemmas.List.Elements.{All-cons, All-nil}
 use Rattle.std.proofs.lemmas.List.Kept.{AllPairs-cons}
 use Rattle.std.proofs.lemmas.List.Sorted.{All-permutation, Contains-permutation, IsPermutation-sym}
 use Rattle.ts_row.specs.declared.kind.Column.{Column}
-use Rattle.ts_row.specs.Element.{Element}
-use Rattle.ts_cells.specs.Cell.{page_room}
-use Rattle.ts_cells.specs.IrregularPage.{first_stamp, last_stamp}
-use Rattle.ts_sheets.specs.Chain.{all_in, AreLater, AreBefore, ArePages, IsDense, IsChain}
+use Rattle.ts_row.specs.Row.{Element}
+use Rattle.ts_cells.specs.IrregularPage.{page_room, first_stamp, last_stamp}
+use Rattle.ts_sheets.specs.Stamped.{all_in, AreLater, AreBefore, ArePages, IsDense, IsChain}
 use Rattle.ts_sheets.proofs.OrderLemmas.{later_back}
 use Rattle.ts_offset.specs.Grid.{GridPlan}
 use Rattle.ts_offset.specs.declared.shape.Shape.{Shape}

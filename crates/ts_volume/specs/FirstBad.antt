@@ -2,14 +2,13 @@
 -- least.
 use Rattle.std.specs.Prelude.{◌≡◌, ◌≢◌, ℕ, ◌+◌, ◌-◌, ◌<◌, ◌≤◌, ◌⊎◌, ℤ, ◌<ℤ◌, ◌≤ℤ◌, Option, Some, None, unwrap_or, List}
 use Rattle.std.specs.Prelude.{[], ◌∷◌, length, drop, replicate}
-use Rattle.ts_page.specs.Volume.{page_size, first_element_page}
-use Rattle.ts_cells.specs.Cell.{page_room}
-use Rattle.ts_cells.specs.IrregularPage.{last_stamp}
-use Rattle.ts_row.specs.RowType.{Heading}
-use Rattle.ts_calendar.specs.Calendar.{IsValid}
+use Rattle.ts_page.specs.Pages.{page_size, first_element_page}
+use Rattle.ts_cells.specs.IrregularPage.{page_room, last_stamp}
+use Rattle.ts_row.specs.Row.{Heading}
+use Rattle.ts_calendar.specs.Calendars.{IsValid}
 use Rattle.ts_offset.specs.declared.shape.Shape.{Shape}
 use Rattle.ts_offset.specs.declared.shape.Shape.TheVariants.{Irregular, Regular}
-use Rattle.ts_offset.specs.Walk.{IsOnStart}
+use Rattle.ts_offset.specs.Grid.{IsOnStart}
 use Rattle.ts_model.specs.declared.kind.Kind.{Kind}
 use Rattle.ts_model.specs.declared.kind.Kind.TheVariants as kinds
 use Rattle.ts_model.specs.declared.def.Def.{Def}
@@ -17,13 +16,11 @@ use Rattle.ts_model.specs.Definitions.{Definitions, PatternDef, CalendarDef, Con
 use Rattle.ts_model.specs.Definitions.{limit, name_of, at_slot, def_at, table_of}
 use Rattle.ts_layout.specs.Slot.{first_definition_page, container_page, slot_bytes, page_of_slot, slots_in_page}
 use Rattle.ts_layout.specs.Slot.{bytes_of_slots, header_bytes}
-use Rattle.ts_layout.specs.Limits.{IsSlotOf}
+use Rattle.ts_layout.specs.Meaning.{IsSlotOf, Layout, ElementPage, Cells, element_page, bytes_of_slot}
+use Rattle.ts_layout.specs.Meaning.{heading_of_container, heading_at, shape_at, sum_of_quotas, charge_of_container}
+use Rattle.ts_layout.specs.Meaning.{HoldsDefinitions, HoldsElements, HoldAll, KeepLimits}
 use Rattle.ts_layout.specs.Sheets.{Sheet}
-use Rattle.ts_layout.specs.Meaning.{Layout, ElementPage, Cells, element_page, bytes_of_slot, heading_of_container}
-use Rattle.ts_layout.specs.Meaning.{heading_at, shape_at, sum_of_quotas, charge_of_container, HoldsDefinitions}
-use Rattle.ts_layout.specs.Meaning.{HoldsElements, HoldAll, KeepLimits}
-use Rattle.ts_journal.specs.Entry.{Entry}
-use Rattle.ts_journal.specs.Journal.{IsVolumeSize, page_count, records, pages}
+use Rattle.ts_journal.specs.Journal.{Entry, IsVolumeSize, page_count, records, pages}
 
 -- the least number that has a property
 pub record IsLeast (P : ℕ → Type 0) (number : ℕ) : Type 0 where

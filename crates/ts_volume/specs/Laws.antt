@@ -1,8 +1,7 @@
 -- What holds of what the bytes of a volume mean.
 use Rattle.std.specs.Prelude.{◌≡◌, ℕ, Option, Some, None, List, length}
 use Rattle.ts_page.specs.Pages.{SameButFreed}
-use Rattle.ts_journal.specs.Entry.{Entry}
-use Rattle.ts_journal.specs.Journal.{IsVolumeSize, page_count, records, pages}
+use Rattle.ts_journal.specs.Journal.{Entry, IsVolumeSize, page_count, records, pages}
 use Rattle.ts_model.specs.Catalogue.{Catalogue}
 use Rattle.ts_layout.specs.Meaning.{Layout, IsLaidOut, catalogue_of}
 use Rattle.ts_volume.specs.Volume.{MeansCatalogue, MeansNothing}

@@ -1,7 +1,6 @@
 -- What the bytes of a volume mean.
 use Rattle.std.specs.Prelude.{◌≡◌, ℕ, List, length, Some}
-use Rattle.ts_journal.specs.Entry.{Entry}
-use Rattle.ts_journal.specs.Journal.{IsVolumeSize, page_count, records, pages}
+use Rattle.ts_journal.specs.Journal.{Entry, IsVolumeSize, page_count, records, pages}
 use Rattle.ts_layout.specs.Meaning.{Means}
 use Rattle.ts_model.specs.Catalogue.{Catalogue}
 

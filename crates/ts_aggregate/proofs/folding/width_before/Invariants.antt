@@ -1,5 +1,5 @@
 use Rattle.std.proofs.Common.{◌≡◌, take}
-use Rattle.ts_row.specs.RowType.{width_of}
+use Rattle.ts_row.specs.Row.{width_of}
 use Rattle.ts_aggregate.proofs.folding.width_before.Given as goal
 
 abbrev pub invariant-loop-column : goal.invariant-loop-column

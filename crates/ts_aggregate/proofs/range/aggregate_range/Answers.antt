@@ -1,10 +1,8 @@
 use Rattle.std.proofs.Common.{◌≡◌, ◌≤◌, ℤ, List, [], length, map, ap, ◌∙◌, arith}
 use Rattle.std.proofs.lemmas.List.{length-map}
-use Rattle.ts_row.specs.Row.{Row}
-use Rattle.ts_row.specs.Element.{Element}
-use Rattle.ts_sheets.specs.Range.{is_within, within_range}
-use Rattle.ts_expr.specs.Binding.{Binding}
-use Rattle.ts_expr.specs.Fold.{folded_row}
+use Rattle.ts_row.specs.Row.{Row, Element}
+use Rattle.ts_sheets.specs.Stamped.{is_within, within_range}
+use Rattle.ts_expr.specs.Aggregates.{Binding, folded_row}
 use Rattle.ts_aggregate.specs.Fold.{most_folded}
 use Rattle.ts_aggregate.proofs.ToldLemmas.{count_told, few_kept}
 use Rattle.ts_aggregate.proofs.range.aggregate_range.Goals as goal

@@ -1,7 +1,6 @@
 use Rattle.std.proofs.Common.{refl}
 use Rattle.std.specs.Fmt.{digits}
-use Rattle.ts_base.specs.Moment.{civil_of, civil_in_year, civil_in_years}
-use Rattle.ts_base.specs.StampText.{stamp_text}
+use Rattle.ts_base.specs.Moment.{civil_of, civil_in_year, civil_in_years, stamp_text}
 use Rattle.ts_answer.specs.Reply.{ok_line, refusal_line, count_line, counts_line, number_line, pattern_lines, calendar_lines, stamps_text, series_line, series_text}
 use Rattle.ts_answer_laws.proofs.laws.lines_are_printed_so.Goals as goal
 

@@ -1,5 +1,4 @@
-use Rattle.ts_row.specs.RowType.{scale_of}
-use Rattle.ts_row.specs.Printed.{literal_of, literals_of}
+use Rattle.ts_row.specs.Row.{scale_of, literal_of, literals_of}
 use Rattle.ts_arguments.proofs.PrintedLemmas.{value-read, values-read}
 use Rattle.ts_arguments.proofs.laws.printed_values_are_read_again.Goals as goal
 

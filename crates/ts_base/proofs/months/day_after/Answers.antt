@@ -2,8 +2,7 @@ use Rattle.std.proofs.Common.{◌≡◌, ◌≤◌, pos, arith, to_z, of_z, w64,
 use Rattle.jiff_core.specs.Calendar.{days_from_civil}
 use Rattle.jiff_core.proofs.SignedLemmas.{signed_casts}
 use Rattle.jiff_span.specs.Months.{add_months}
-use Rattle.ts_base.specs.Moment.{Civil}
-use Rattle.ts_base.specs.Months.{days_after}
+use Rattle.ts_base.specs.Moment.{Civil, days_after}
 use Rattle.ts_base.proofs.CivilLemmas.{civil_of-date, civil, days_bounds, natural}
 use Rattle.ts_base.proofs.MonthLemmas.{far, moved_not, moved_low, moved_to}
 use Rattle.ts_base.proofs.months.day_after.Goals as goal

@@ -1,8 +1,7 @@
 use Rattle.std.proofs.Common.{◌≡◌, pos, ℤ, ◌+ℤ◌, ◌*ℤ◌, arith, to_z, of_z, w64, ◌∙◌, refl, ap, Some, Option}
 use Rattle.std.specs.Option.{option_map}
 use Rattle.jiff_core.proofs.SignedLemmas.{signed_casts}
-use Rattle.ts_base.specs.Moment.{civil_of, day_of, clock_of}
-use Rattle.ts_base.specs.Months.{days_after, months_after}
+use Rattle.ts_base.specs.Moment.{civil_of, day_of, clock_of, days_after, months_after}
 use Rattle.ts_base.proofs.months.month_start.Goals as goal
 
 -- the stamp of a day at the time of another stamp

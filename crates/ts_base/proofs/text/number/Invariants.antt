@@ -1,6 +1,6 @@
 use Rattle.std.proofs.Common.{◌≡◌, ◌^◌, ◌<◌, take}
 use Rattle.std.specs.List.{fold}
-use Rattle.ts_base.specs.StampText.{with_digit}
+use Rattle.ts_base.specs.Moment.{with_digit}
 use Rattle.ts_base.proofs.text.number.Given as goal
 
 abbrev pub invariant-loop-c : goal.invariant-loop-c

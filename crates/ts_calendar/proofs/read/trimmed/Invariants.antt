@@ -1,5 +1,5 @@
 use Rattle.std.proofs.Common.{◌≡◌, length}
-use Rattle.ts_calendar.specs.Text.{trimmed}
+use Rattle.ts_calendar.specs.Calendars.{trimmed}
 use Rattle.ts_calendar.proofs.read.trimmed.Given as goal
 
 abbrev pub invariant-loop-rest : goal.invariant-loop-rest

@@ -2,8 +2,7 @@ use Rattle.std.proofs.Common.{◌≡◌, ◌∙◌, sym, ap, arith, pos, ◌+ℤ
 use Rattle.jiff_core.proofs.SignedLemmas.{signed_casts}
 use Rattle.std.proofs.Common.{Some}
 use Rattle.std.specs.Prelude.{is_some}
-use Rattle.ts_calendar.specs.Intervals.{start_in}
-use Rattle.ts_calendar.specs.Calendar.{starts_at}
+use Rattle.ts_calendar.specs.Calendars.{start_in, starts_at}
 use Rattle.ts_calendar.proofs.StepLemmas.{first-here, first-next, first-none}
 use Rattle.ts_calendar.proofs.steps.first_step.Goals as goal
 

@@ -1,5 +1,5 @@
 use Rattle.std.proofs.Common.{◌∙◌, sym, ap, to_z, of_z, w64, to_z-of_z, FitsSigned, rules}
-use Rattle.ts_calendar.specs.Calendar.{starts_at}
+use Rattle.ts_calendar.specs.Calendars.{starts_at}
 use Rattle.ts_calendar.proofs.StepLemmas.{steps-some, steps-none}
 use Rattle.ts_calendar.proofs.steps.steps_between.Goals as goal
 

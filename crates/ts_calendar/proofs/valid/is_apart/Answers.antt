@@ -1,8 +1,8 @@
 use Rattle.std.proofs.Common.{◌≡◌, ◌∙◌, ◌≤ℤ◌, ◌-ℤ◌, ap, arith, pos, to_z, of_z, w64}
 use Rattle.std.specs.Prelude.{neg_ℤ}
 use Rattle.jiff_core.proofs.SignedLemmas.{signed_casts}
-use Rattle.ts_pattern.specs.Runs.{total}
-use Rattle.ts_calendar.specs.Intervals.{start_in, starts_from}
+use Rattle.ts_pattern.specs.Patterns.{total}
+use Rattle.ts_calendar.specs.Calendars.{start_in, starts_from}
 use Rattle.ts_calendar.proofs.StampLemmas.{int_lt_no}
 use Rattle.ts_calendar.proofs.valid.is_apart.Goals as goal
 

@@ -8,7 +8,7 @@ use Rattle.ts_base.specs.Moment.{stamp_if_any}
 use Rattle.ts_row.specs.declared.kind.Column.{Column}
 use Rattle.ts_row.specs.Row.{Row}
 use Rattle.ts_row.specs.Encoding.{AreRowBytes}
-use Rattle.ts_cells.specs.Cell.{IsElement, cell_bytes}
+use Rattle.ts_cells.specs.IrregularPage.{IsElement, cell_bytes}
 use Rattle.ts_cells.proofs.CellLemmas.{element_of, if_some}
 use Rattle.ts_cells.proofs.cell.stamp_of_cell.Goals as goal
 

@@ -1,9 +1,8 @@
 -- The cells are judged one by one, and what stands behind them is zero.
 use Rattle.std.proofs.Common.{◌≡◌, ◌-◌, ◌*◌, ℕ, true, false, List, length, take, drop, sym, ap, ◌∙◌}
-use Rattle.ts_page.specs.Head.{are_zero}
+use Rattle.ts_page.specs.Pages.{are_zero}
 use Rattle.ts_row.specs.declared.kind.Column.{Column}
-use Rattle.ts_cells.specs.Cell.{cell_size}
-use Rattle.ts_cells.specs.IrregularPage.{behind_head}
+use Rattle.ts_cells.specs.IrregularPage.{cell_size, behind_head}
 use Rattle.ts_cells.proofs.CellLemmas.{if_some_weaker, if_none_weaker}
 use Rattle.ts_cells.proofs.HeadLemmas.{is_zero, front_cells, behind_cells, behind_again}
 use Rattle.ts_cells.proofs.extent.extent_in.Goals as goal

@@ -4,7 +4,7 @@ use Rattle.std.proofs.lemmas.Int.{ints}
 use Rattle.std.proofs.lemmas.Bool.Decides.{nat_tests}
 use Rattle.ts_row.specs.declared.kind.Column.{Column}
 use Rattle.ts_row.proofs.RowBytesLemmas.{valid}
-use Rattle.ts_cells.specs.Cell.{cell_bytes}
+use Rattle.ts_cells.specs.IrregularPage.{cell_bytes}
 use Rattle.ts_cells.proofs.JudgeLemmas.{cell_in, SoFar, so_far_first, so_far_more, no_cell, not_later, cell_range, first_range}
 use Rattle.ts_cells.proofs.extent.extent_of_cells.Goals as goal
 use Rattle.ts_cells.proofs.extent.extent_of_cells.Goals.{then-hidden, else-hidden}

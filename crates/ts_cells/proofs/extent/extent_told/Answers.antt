@@ -3,7 +3,7 @@ use Rattle.std.proofs.Common.{◌≡◌, ◌≤◌, ℕ, Option, Some, List, len
 use Rattle.std.proofs.Math.Seq.{take-length}
 use Rattle.std.proofs.Math.Facts.{Fits-lt-pow}
 use Rattle.ts_row.specs.declared.kind.Column.{Column}
-use Rattle.ts_cells.specs.Cell.{page_room}
+use Rattle.ts_cells.specs.IrregularPage.{page_room}
 use Rattle.ts_cells.proofs.CellLemmas.{if_some_weaker, if_none_weaker}
 use Rattle.ts_cells.proofs.HeadLemmas.{count_is, head_one, page_again, irregular_behind}
 use Rattle.ts_cells.proofs.extent.extent_told.Goals as goal

@@ -4,7 +4,7 @@ use Rattle.ts_base.specs.Moment.{IsStamp}
 use Rattle.ts_space.specs.declared.place.Place.{Place}
 use Rattle.ts_page.specs.Pages.{EqualPages, with_page}
 use Rattle.ts_row.specs.declared.kind.Column.{Column}
-use Rattle.ts_cells.specs.Cell.{IsElement}
+use Rattle.ts_cells.specs.IrregularPage.{IsElement}
 use Rattle.ts_chain.proofs.EndLemmas.{answered_ok, target_get}
 use Rattle.ts_chain.proofs.InsertLemmas.{there_already, parted_of, put_more}
 use Rattle.ts_chain.proofs.insert.insert_read.Goals as goal

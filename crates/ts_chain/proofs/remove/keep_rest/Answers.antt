@@ -1,5 +1,5 @@
 use Rattle.std.proofs.Common.{◌-◌, ℤ, ◌∷◌, ℕ, sym, subst, refl, ◌∙◌, arith}
-use Rattle.ts_cells.specs.Cell.{page_room}
+use Rattle.ts_cells.specs.IrregularPage.{page_room}
 use Rattle.ts_sheets.specs.Places.{FitsFirst, FitsLast, IsBeginning}
 use Rattle.ts_chain.proofs.LessLemmas.{before_room}
 use Rattle.ts_chain.proofs.AnswerLemmas.{before_answer, behind_answer, put_answer, read_first}

@@ -1,5 +1,5 @@
 use Rattle.std.proofs.Common.{◌≡◌, ◌+◌, ◌-◌, ◌≤◌, ℕ, List, Result, Ok, Err, length, refl, sym, ◌∙◌, subst, ap, arith}
-use Rattle.ts_page.specs.Volume.{first_element_page}
+use Rattle.ts_page.specs.Pages.{first_element_page}
 use Rattle.ts_container.specs.declared.elements.Elements.{Elements}
 use Rattle.ts_container.specs.declared.fault.SurveyFault.{SurveyFault}
 use Rattle.ts_container.specs.Elements.{AllRead, ElementsRead}

@@ -1,6 +1,6 @@
 -- The element pages below a number are read.
 use Rattle.std.proofs.Common.{◌-◌, ◌<◌, ◌≤◌, Ok, length}
-use Rattle.ts_page.specs.Volume.{first_element_page}
+use Rattle.ts_page.specs.Pages.{first_element_page}
 use Rattle.ts_container.specs.Elements.{AllRead}
 use Rattle.ts_container.specs.Survey.{Reads}
 use Rattle.ts_check.proofs.survey.judge_elements.Given as goal

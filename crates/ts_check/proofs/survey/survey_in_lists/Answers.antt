@@ -1,6 +1,6 @@
 use Rattle.std.proofs.Common.{◌-◌, Result, Ok, Err, sym, subst}
 use Rattle.std.proofs.lemmas.Result.{IfOk-weaker}
-use Rattle.ts_page.specs.Volume.{first_element_page}
+use Rattle.ts_page.specs.Pages.{first_element_page}
 use Rattle.ts_container.specs.declared.fault.SurveyFault.{SurveyFault}
 use Rattle.ts_container.specs.declared.surveyed.Surveyed.{Surveyed}
 use Rattle.ts_container.specs.Survey.{Reads}

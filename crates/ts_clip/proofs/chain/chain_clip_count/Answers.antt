@@ -4,10 +4,9 @@ use Rattle.std.proofs.lemmas.Int.{to_z-of_z}
 use Rattle.std.proofs.lemmas.Result.{IfOk-weaker}
 use Rattle.ts_space.specs.Directory.{places_of}
 use Rattle.ts_row.specs.declared.kind.Column.{Column}
-use Rattle.ts_row.specs.Element.{seen}
-use Rattle.ts_sheets.specs.Range.{within_range}
-use Rattle.ts_entry.specs.Entry.{Entry, filled, AreTaken}
-use Rattle.ts_entry.specs.Reading.{last_ones}
+use Rattle.ts_row.specs.Row.{seen}
+use Rattle.ts_sheets.specs.Stamped.{within_range}
+use Rattle.ts_entry.specs.Entry.{Entry, filled, AreTaken, last_ones}
 use Rattle.ts_clip.specs.Chain.{first_moment}
 use Rattle.ts_clip.proofs.ChainReadingLemmas.{counted_first, counted_last}
 use Rattle.ts_clip.proofs.ChainToldLemmas.{order_told}

@@ -1,9 +1,9 @@
 use Rattle.std.proofs.Common.{length, sym, ap, ◌∙◌}
 use Rattle.std.proofs.lemmas.List.{length-map}
 use Rattle.std.proofs.lemmas.Result.{IfOk-weaker}
-use Rattle.ts_row.specs.Element.{seen}
+use Rattle.ts_row.specs.Row.{seen}
 use Rattle.ts_space.specs.Directory.{places_of}
-use Rattle.ts_sheets.specs.Range.{within_range}
+use Rattle.ts_sheets.specs.Stamped.{within_range}
 use Rattle.ts_entry.specs.Entry.{filled}
 use Rattle.ts_clip.proofs.ChainReadingLemmas.{clipped_filled}
 use Rattle.ts_clip.proofs.ChainShownLemmas.{ends_told}

@@ -1,8 +1,8 @@
 use Rattle.std.proofs.Common.{◌^◌, ◌-◌, List, ◌∙◌, arith}
 use Rattle.std.proofs.lemmas.List.{take_all}
-use Rattle.ts_row.specs.Element.{Element, seen}
+use Rattle.ts_row.specs.Row.{Element, seen}
 use Rattle.ts_space.specs.Directory.{places_of}
-use Rattle.ts_sheets.specs.Range.{within_range}
+use Rattle.ts_sheets.specs.Stamped.{within_range}
 use Rattle.ts_clip.proofs.ChainReadingLemmas.{elements_filled}
 use Rattle.ts_clip.proofs.ChainToldLemmas.{few_told}
 use Rattle.ts_clip.proofs.chain.chain_elements.Goals as goal

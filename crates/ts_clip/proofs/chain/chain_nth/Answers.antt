@@ -2,11 +2,10 @@ use Rattle.std.proofs.Common.{◌≡◌, ◌-◌, ℕ, List, length, map, take, 
 use Rattle.std.proofs.lemmas.List.{take_rest}
 use Rattle.ts_space.specs.declared.place.Place.{Place}
 use Rattle.ts_row.specs.declared.kind.Column.{Column}
-use Rattle.ts_row.specs.Element.{Element, seen, has_hidden}
+use Rattle.ts_row.specs.Row.{Element, seen, has_hidden}
 use Rattle.ts_cells.specs.IrregularPage.{AreElements}
-use Rattle.ts_sheets.specs.Chain.{all_in}
+use Rattle.ts_sheets.specs.Stamped.{all_in, within_range}
 use Rattle.ts_sheets.specs.Places.{AreChained}
-use Rattle.ts_sheets.specs.Range.{within_range}
 use Rattle.ts_sheets.proofs.OrderLemmas.{elements_back, pages_in_order}
 use Rattle.ts_entry.specs.Entry.{Entry, filled, AreTaken}
 use Rattle.ts_clip.proofs.ChainPassedLemmas.{passed_same}

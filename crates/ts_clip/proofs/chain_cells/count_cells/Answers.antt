@@ -1,6 +1,6 @@
 use Rattle.std.proofs.Common.{◌-◌, List, length, take, drop, refl, sym, ap, ◌∙◌, arith}
 use Rattle.ts_row.specs.declared.kind.Column.{Column}
-use Rattle.ts_row.specs.Element.{Element, seen}
+use Rattle.ts_row.specs.Row.{Element, seen}
 use Rattle.ts_irregular.proofs.BytesLemmas.{part}
 use Rattle.ts_irregular.proofs.CellLemmas.{element_is}
 use Rattle.ts_clip.proofs.ChainCellLemmas.{cells_next, cells_none, seen_hidden, seen_shown}

@@ -1,6 +1,6 @@
 -- The cells before an index are those of hidden elements.
 use Rattle.std.proofs.Common.{◌≡◌, List, [], length, take}
-use Rattle.ts_row.specs.Element.{Element, seen}
+use Rattle.ts_row.specs.Row.{Element, seen}
 use Rattle.ts_cells.specs.IrregularPage.{AreElements, behind_head}
 use Rattle.ts_clip.proofs.chain_cells.first_among.Given as goal
 

@@ -1,6 +1,6 @@
 -- The cells before an index are passed.
 use Rattle.std.proofs.Common.{◌≡◌, ◌-◌, ◌≤◌, List, length, take, drop}
-use Rattle.ts_row.specs.Element.{Element, seen}
+use Rattle.ts_row.specs.Row.{Element, seen}
 use Rattle.ts_cells.specs.IrregularPage.{AreElements, behind_head}
 use Rattle.ts_entry.specs.Entry.{Entry}
 use Rattle.ts_clip.specs.Chain.{ArePassed}

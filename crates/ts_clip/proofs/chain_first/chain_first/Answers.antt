@@ -2,12 +2,12 @@ use Rattle.std.proofs.Common.{◌≡◌, ℕ, Option, Ok, List, [], ◌∷◌, g
 use Rattle.std.specs.Prelude.{slice_get}
 use Rattle.ts_space.specs.declared.place.Place.{Place}
 use Rattle.ts_row.specs.declared.kind.Column.{Column}
-use Rattle.ts_row.specs.Element.{Element, seen}
+use Rattle.ts_row.specs.Row.{Element, seen}
 use Rattle.ts_irregular.specs.Call.{IsTold}
-use Rattle.ts_sheets.specs.Chain.{all_in}
+use Rattle.ts_sheets.specs.Stamped.{all_in}
 use Rattle.ts_sheets.specs.Places.{AreChained}
 use Rattle.ts_page.proofs.ReadsLemmas.{reads_more, reads_ok}
-use Rattle.ts_entry.specs.Reading.{first_seen}
+use Rattle.ts_entry.specs.Entry.{first_seen}
 use Rattle.ts_clip.proofs.ChainPageLemmas.{page_in, pages_all, on_since}
 use Rattle.ts_clip.proofs.ChainFirstLemmas.{page_hidden, page_first}
 use Rattle.ts_clip.proofs.chain_first.chain_first.Goals as goal

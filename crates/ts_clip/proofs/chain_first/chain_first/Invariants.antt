@@ -1,8 +1,8 @@
 -- The pages before an index have hidden elements alone.
 use Rattle.std.proofs.Common.{◌≡◌, Ok, List, [], take}
-use Rattle.ts_row.specs.Element.{Element, seen}
+use Rattle.ts_row.specs.Row.{Element, seen}
 use Rattle.ts_irregular.specs.Call.{Reads}
-use Rattle.ts_sheets.specs.Chain.{all_in}
+use Rattle.ts_sheets.specs.Stamped.{all_in}
 use Rattle.ts_clip.specs.Chain.{HoldsOfPages}
 use Rattle.ts_clip.proofs.chain_first.chain_first.Given as goal
 

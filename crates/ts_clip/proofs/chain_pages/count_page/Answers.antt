@@ -1,6 +1,6 @@
 use Rattle.std.proofs.Common.{List, length, sym, ap, ◌∙◌, arith}
 use Rattle.ts_row.specs.declared.kind.Column.{Column}
-use Rattle.ts_row.specs.Element.{Element, seen}
+use Rattle.ts_row.specs.Row.{Element, seen}
 use Rattle.ts_clip.proofs.ChainPageLemmas.{page_read}
 use Rattle.ts_clip.proofs.chain_pages.count_page.Goals as goal
 

@@ -1,9 +1,8 @@
 use Rattle.std.proofs.Common.{◌-◌, ◌^◌, min, Ok, List, length, take, get_or, refl, ap, ◌∙◌, arith, length-append}
 use Rattle.ts_space.specs.declared.place.Place.{Place}
 use Rattle.ts_row.specs.declared.kind.Column.{Column}
-use Rattle.ts_row.specs.Element.{Element, seen}
-use Rattle.ts_sheets.specs.Chain.{all_in}
-use Rattle.ts_sheets.specs.Range.{within_range}
+use Rattle.ts_row.specs.Row.{Element, seen}
+use Rattle.ts_sheets.specs.Stamped.{all_in, within_range}
 use Rattle.ts_page.proofs.ReadsLemmas.{reads_none, reads_more, reads_ok}
 use Rattle.ts_clip.proofs.ChainPageLemmas.{readable_since, page_in, within_next, pages_all, on_since}
 use Rattle.ts_clip.proofs.chain_pages.count_pages.Goals as goal

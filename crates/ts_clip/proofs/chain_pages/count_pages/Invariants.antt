@@ -1,9 +1,8 @@
 -- The elements of the pages before an index are counted.
 use Rattle.std.proofs.Common.{◌≡◌, ◌-◌, ◌^◌, min, Ok, List, length, take}
-use Rattle.ts_row.specs.Element.{Element, seen}
+use Rattle.ts_row.specs.Row.{Element, seen}
 use Rattle.ts_irregular.specs.Call.{Reads}
-use Rattle.ts_sheets.specs.Chain.{all_in}
-use Rattle.ts_sheets.specs.Range.{within_range}
+use Rattle.ts_sheets.specs.Stamped.{all_in, within_range}
 use Rattle.ts_clip.specs.Chain.{HoldsOfPages}
 use Rattle.ts_clip.proofs.chain_pages.count_pages.Given as goal
 

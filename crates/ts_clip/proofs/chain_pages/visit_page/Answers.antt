@@ -1,6 +1,6 @@
 use Rattle.std.proofs.Common.{List, sym, ap, arith}
 use Rattle.ts_row.specs.declared.kind.Column.{Column}
-use Rattle.ts_row.specs.Element.{seen}
+use Rattle.ts_row.specs.Row.{seen}
 use Rattle.ts_clip.proofs.ChainPassedLemmas.{passed_same}
 use Rattle.ts_clip.proofs.ChainPageLemmas.{page_read}
 use Rattle.ts_clip.proofs.chain_pages.visit_page.Goals as goal

@@ -1,9 +1,8 @@
 -- The pages before an index are passed.
 use Rattle.std.proofs.Common.{◌≤◌, Ok, List, take}
-use Rattle.ts_row.specs.Element.{Element, seen}
+use Rattle.ts_row.specs.Row.{Element, seen}
 use Rattle.ts_irregular.specs.Call.{Reads}
-use Rattle.ts_sheets.specs.Chain.{all_in}
-use Rattle.ts_sheets.specs.Range.{within_range}
+use Rattle.ts_sheets.specs.Stamped.{all_in, within_range}
 use Rattle.ts_entry.specs.Entry.{Entry}
 use Rattle.ts_clip.specs.Chain.{ArePassed, HoldsOfPages}
 use Rattle.ts_clip.proofs.chain_pages.visit_pages.Given as goal

@@ -1,11 +1,10 @@
 use Rattle.std.proofs.Common.{Ok, List, get_or, ap, subst, ◌∙◌, take}
 use Rattle.ts_space.specs.declared.place.Place.{Place}
 use Rattle.ts_row.specs.declared.kind.Column.{Column}
-use Rattle.ts_row.specs.Element.{Element}
-use Rattle.ts_sheets.specs.Chain.{all_in}
+use Rattle.ts_row.specs.Row.{Element}
+use Rattle.ts_sheets.specs.Stamped.{all_in, within_range}
 use Rattle.ts_page.proofs.ReadsLemmas.{reads_none, reads_more}
 use Rattle.ts_clip.proofs.ChainPageLemmas.{readable_since, page_in, pages_all, on_since}
-use Rattle.ts_sheets.specs.Range.{within_range}
 use Rattle.ts_clip.proofs.ChainRowLemmas.{range_next}
 use Rattle.ts_clip.proofs.chain_rows.chain_rows.Goals as goal
 

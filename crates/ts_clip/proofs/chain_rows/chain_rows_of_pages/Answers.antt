@@ -4,11 +4,10 @@ use Rattle.std.proofs.lemmas.Slice.Zip.{AllZip-long, zip_turn, zip_end}
 use Rattle.ts_page.specs.declared.page.Page.{Page}
 use Rattle.ts_space.specs.declared.place.Place.{Place}
 use Rattle.ts_row.specs.declared.kind.Column.{Column}
-use Rattle.ts_row.specs.Element.{Element}
+use Rattle.ts_row.specs.Row.{Element}
 use Rattle.ts_irregular.specs.OnePage.{IsOn}
-use Rattle.ts_sheets.specs.Chain.{all_in}
+use Rattle.ts_sheets.specs.Stamped.{all_in, within_range}
 use Rattle.ts_clip.proofs.ChainPageLemmas.{page_in, pages_all}
-use Rattle.ts_sheets.specs.Range.{within_range}
 use Rattle.ts_clip.proofs.ChainRowLemmas.{range_next}
 use Rattle.ts_clip.proofs.PageListLemmas.{read_there}
 use Rattle.ts_clip.proofs.chain_rows.chain_rows_of_pages.Goals as goal

@@ -1,10 +1,9 @@
 -- The elements on the pages before an index were handed on.
 use Rattle.std.proofs.Common.{ℕ, List, length, take}
-use Rattle.ts_row.specs.Element.{Element}
-use Rattle.ts_sheets.specs.Chain.{all_in}
+use Rattle.ts_row.specs.Row.{Element}
+use Rattle.ts_sheets.specs.Stamped.{all_in, within_range}
 use Rattle.ts_sheets.specs.Places.{AreChained}
 use Rattle.ts_clip.specs.Series.{ArePagesOf}
-use Rattle.ts_sheets.specs.Range.{within_range}
 use Rattle.ts_clip.proofs.chain_rows.chain_rows_of_pages.Given as goal
 
 abbrev pub invariant-loop-place : goal.invariant-loop-place

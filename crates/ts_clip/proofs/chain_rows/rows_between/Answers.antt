@@ -1,9 +1,8 @@
 use Rattle.std.proofs.Common.{◌≡◌, ℕ, ◌+◌, ◌-◌, ◌≤◌, List, take, drop, refl, sym, subst, arith}
 use Rattle.std.proofs.lemmas.Result.{IfOk-weaker}
 use Rattle.ts_row.specs.declared.kind.Column.{Column}
-use Rattle.ts_row.specs.RowType.{width_of}
-use Rattle.ts_row.specs.Element.{Element}
-use Rattle.ts_cells.specs.Cell.{cell_size as element_size}
+use Rattle.ts_row.specs.Row.{width_of, Element}
+use Rattle.ts_cells.specs.IrregularPage.{cell_size as element_size}
 use Rattle.ts_cells.proofs.HeadLemmas.{cells_fit}
 use Rattle.ts_entry.specs.declared.stamps.Stamps.TheVariants.{InCells}
 use Rattle.ts_entry.specs.Rows.{AreCellsWith, AreStamped}

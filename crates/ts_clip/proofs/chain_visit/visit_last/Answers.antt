@@ -3,12 +3,11 @@ use Rattle.std.proofs.lemmas.List.{take_rest}
 use Rattle.ts_space.specs.declared.place.Place.{Place}
 use Rattle.ts_space.specs.Directory.{places_of}
 use Rattle.ts_row.specs.declared.kind.Column.{Column}
-use Rattle.ts_row.specs.Element.{Element, seen}
+use Rattle.ts_row.specs.Row.{Element, seen}
 use Rattle.ts_sheets.specs.Places.{AreChained}
-use Rattle.ts_sheets.specs.Range.{within_range}
+use Rattle.ts_sheets.specs.Stamped.{within_range}
 use Rattle.ts_series.proofs.KeepLemmas.{chained_since}
-use Rattle.ts_entry.specs.Entry.{Entry, filled, AreTaken}
-use Rattle.ts_entry.specs.Reading.{last_ones}
+use Rattle.ts_entry.specs.Entry.{Entry, filled, AreTaken, last_ones}
 use Rattle.ts_clip.proofs.ChainRangeLemmas.{chained_others}
 use Rattle.ts_clip.proofs.ChainToldLemmas.{range_told, last_part}
 use Rattle.ts_clip.proofs.chain_visit.visit_last.Goals as goal

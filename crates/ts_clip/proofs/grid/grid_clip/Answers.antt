@@ -2,8 +2,7 @@ use Rattle.std.proofs.Common.{◌≡◌, ◌-◌, ◌≤◌, ℕ, List, length, 
 use Rattle.ts_space.specs.Directory.{places_of}
 use Rattle.ts_row.specs.declared.kind.Column.{Column}
 use Rattle.ts_offset.specs.declared.shape.Shape.TheVariants.{Regular}
-use Rattle.ts_entry.specs.Entry.{Entry, AreTaken}
-use Rattle.ts_entry.specs.Reading.{clipped, reading}
+use Rattle.ts_entry.specs.Entry.{Entry, AreTaken, clipped, reading}
 use Rattle.ts_clip.proofs.GridFilterLemmas.{length-part}
 use Rattle.ts_clip.proofs.GridReadingLemmas.{reading_starts}
 use Rattle.ts_clip.proofs.GridReadLemmas.{cells_kept, read_refused, read_taken, reading_of}

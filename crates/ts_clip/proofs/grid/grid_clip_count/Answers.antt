@@ -4,8 +4,7 @@ use Rattle.std.proofs.lemmas.Result.{IfOk-weaker}
 use Rattle.ts_space.specs.Directory.{places_of}
 use Rattle.ts_row.specs.declared.kind.Column.{Column}
 use Rattle.ts_offset.specs.declared.shape.Shape.TheVariants.{Regular}
-use Rattle.ts_entry.specs.Entry.{Entry, AreTaken}
-use Rattle.ts_entry.specs.Reading.{counted, reading}
+use Rattle.ts_entry.specs.Entry.{Entry, AreTaken, counted, reading}
 use Rattle.ts_clip.specs.Grid.{between}
 use Rattle.ts_clip.proofs.GridReadingLemmas.{reading_starts}
 use Rattle.ts_clip.proofs.GridReadLemmas.{cells_kept, reading_of}

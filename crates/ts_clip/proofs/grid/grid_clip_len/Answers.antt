@@ -2,8 +2,7 @@ use Rattle.std.proofs.Common.{◌≡◌, ◌≤◌, ℕ, List, length, sym, ap, 
 use Rattle.ts_space.specs.Directory.{places_of}
 use Rattle.ts_row.specs.declared.kind.Column.{Column}
 use Rattle.ts_offset.specs.declared.shape.Shape.TheVariants.{Regular}
-use Rattle.ts_entry.specs.Entry.{Entry}
-use Rattle.ts_entry.specs.Reading.{reading}
+use Rattle.ts_entry.specs.Entry.{Entry, reading}
 use Rattle.ts_clip.proofs.GridFilterLemmas.{length-part}
 use Rattle.ts_clip.proofs.GridReadingLemmas.{reading_starts}
 use Rattle.ts_clip.proofs.GridReadLemmas.{reading_of}

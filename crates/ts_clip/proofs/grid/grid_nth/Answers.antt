@@ -5,8 +5,7 @@ use Rattle.std.proofs.lemmas.Result.{IfOk-weaker}
 use Rattle.ts_space.specs.Directory.{places_of}
 use Rattle.ts_row.specs.declared.kind.Column.{Column}
 use Rattle.ts_offset.specs.declared.shape.Shape.TheVariants.{Regular}
-use Rattle.ts_entry.specs.Entry.{Entry, AreTaken}
-use Rattle.ts_entry.specs.Reading.{entry_number, reading}
+use Rattle.ts_entry.specs.Entry.{Entry, AreTaken, entry_number, reading}
 use Rattle.ts_clip.proofs.GridFilterLemmas.{part_one}
 use Rattle.ts_clip.proofs.GridReadLemmas.{cells_kept}
 use Rattle.ts_clip.proofs.grid.grid_nth.Goals as goal

@@ -2,8 +2,7 @@ use Rattle.std.proofs.Common.{◌≡◌, ℕ, List, [], length, take, drop, refl
 use Rattle.ts_space.specs.Directory.{places_of}
 use Rattle.ts_row.specs.declared.kind.Column.{Column}
 use Rattle.ts_offset.specs.declared.shape.Shape.TheVariants.{Regular}
-use Rattle.ts_entry.specs.Entry.{Entry, AreTaken}
-use Rattle.ts_entry.specs.Reading.{reading}
+use Rattle.ts_entry.specs.Entry.{Entry, AreTaken, reading}
 use Rattle.ts_clip.specs.Grid.{between}
 use Rattle.ts_clip.proofs.GridFilterLemmas.{length-part}
 use Rattle.ts_clip.proofs.GridReadingLemmas.{reading_between}

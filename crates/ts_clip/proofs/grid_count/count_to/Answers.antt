@@ -1,8 +1,7 @@
 use Rattle.std.proofs.Common.{◌≡◌, ℕ, ◌^◌, ◌<◌, true, not, is_some, sym, ap, ◌∙◌, arith}
 use Rattle.std.specs.Prelude.{int_lt}
 use Rattle.std.proofs.lemmas.Option.{slice_get_within}
-use Rattle.ts_offset.specs.Grid.{GridPlan, starts_of, stamp_of}
-use Rattle.ts_offset.specs.Walk.{on_starts}
+use Rattle.ts_offset.specs.Grid.{GridPlan, starts_of, stamp_of, on_starts}
 use Rattle.ts_regular_edits.proofs.StampLemmas.{some_start}
 use Rattle.ts_sheets.proofs.StartLemmas.{all_few, filtered_fewer}
 use Rattle.ts_clip.proofs.grid_count.count_to.Goals as goal

@@ -1,5 +1,5 @@
 use Rattle.std.proofs.Common.{List, sym, subst}
-use Rattle.ts_row.specs.Element.{Element}
+use Rattle.ts_row.specs.Row.{Element}
 use Rattle.ts_regular.specs.Places.{all_in}
 use Rattle.ts_clip.proofs.GridReadingLemmas.{IsReading, reading_long, told_reading}
 use Rattle.ts_clip.proofs.grid_count.entry_count.Goals as goal

@@ -2,7 +2,7 @@ use Rattle.std.proofs.Common.{sym, ap, ◌∙◌}
 use Rattle.std.specs.Option.{option_and_then}
 use Rattle.ts_regular.specs.Places.{all_in}
 use Rattle.ts_sheets.specs.Stamped.{stamped_one}
-use Rattle.ts_entry.specs.Reading.{first_seen}
+use Rattle.ts_entry.specs.Entry.{first_seen}
 use Rattle.ts_clip.proofs.GridFirstLemmas.{first_seen_stamped}
 use Rattle.ts_clip.proofs.grid_ends.grid_first.Goals as goal
 

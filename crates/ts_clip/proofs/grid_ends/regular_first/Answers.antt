@@ -2,7 +2,7 @@ use Rattle.std.proofs.Common.{◌≡◌, ℕ, Option, Some, None, Ok, List, [], 
 use Rattle.std.proofs.lemmas.List.{drop_all}
 use Rattle.ts_space.specs.declared.place.Place.{Place}
 use Rattle.ts_row.specs.declared.kind.Column.{Column}
-use Rattle.ts_regular.specs.Offsets.{OffsetElement, elements_from}
+use Rattle.ts_regular.specs.RegularPage.{OffsetElement, elements_from}
 use Rattle.ts_regular.specs.Places.{OffsetPage, AreOn, IsOn, all_in}
 use Rattle.ts_regular.specs.OnePage.{IsToldOn}
 use Rattle.ts_page.proofs.ReadsLemmas.{reads_more, reads_ok}

@@ -1,6 +1,6 @@
 use Rattle.std.proofs.Common.{ℕ, List, ap, ◌∙◌}
 use Rattle.ts_row.specs.declared.kind.Column.{Column}
-use Rattle.ts_regular.specs.Offsets.{elements_from}
+use Rattle.ts_regular.specs.RegularPage.{elements_from}
 use Rattle.ts_clip.specs.Grid.{first_of}
 use Rattle.ts_clip.proofs.GridPageLemmas.{behind_on, one_base}
 use Rattle.ts_clip.proofs.grid_first.first_on.Goals as goal

@@ -1,5 +1,5 @@
 use Rattle.std.proofs.Common.{◌≡◌, ℕ, Some, List, ◌∙◌}
-use Rattle.ts_page.specs.Head.{head_of}
+use Rattle.ts_page.specs.Pages.{head_of}
 use Rattle.ts_page.specs.declared.page.Head.TheVariants.{Regular}
 use Rattle.ts_row.specs.declared.kind.Column.{Column}
 use Rattle.ts_regular.proofs.HeadLemmas.{head_told}

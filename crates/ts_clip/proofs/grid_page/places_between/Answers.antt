@@ -3,7 +3,7 @@ use Rattle.std.proofs.lemmas.List.{drop_at, take_at, take_rest}
 use Rattle.ts_space.specs.declared.place.Place.{Place}
 use Rattle.ts_space.specs.Place.{AreBelow, rank_of}
 use Rattle.ts_row.specs.declared.kind.Column.{Column}
-use Rattle.ts_regular.specs.Cell.{base_of}
+use Rattle.ts_regular.specs.RegularPage.{base_of}
 use Rattle.ts_regular.specs.Cut.{AreNotBelow, IsRange}
 use Rattle.ts_regular.proofs.RankLemmas.{ranged, rest_rising}
 use Rattle.ts_clip.specs.Between.{AreBetween}

@@ -1,9 +1,8 @@
 use Rattle.std.proofs.Common.{◌+◌, ◌-◌, List, take, drop, subst, arith}
 use Rattle.std.proofs.lemmas.Result.{IfOk-weaker}
 use Rattle.ts_row.specs.declared.kind.Column.{Column}
-use Rattle.ts_row.specs.RowType.{width_of}
-use Rattle.ts_row.specs.Element.{Element}
-use Rattle.ts_regular.specs.Cell.{Cell}
+use Rattle.ts_row.specs.Row.{width_of, Element}
+use Rattle.ts_regular.specs.RegularPage.{Cell}
 use Rattle.ts_entry.specs.Rows.{AreCellsWith}
 use Rattle.ts_regular.proofs.BytesLemmas.{cells_fit}
 use Rattle.ts_clip.proofs.RowRunLemmas.{cells_run, run_whole}

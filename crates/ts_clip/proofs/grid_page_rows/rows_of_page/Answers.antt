@@ -1,7 +1,7 @@
 use Rattle.std.proofs.Common.{List, sym, subst, ◌∙◌}
 use Rattle.std.proofs.lemmas.Result.{on_ok_weaker}
 use Rattle.ts_row.specs.declared.kind.Column.{Column}
-use Rattle.ts_row.specs.Element.{Element}
+use Rattle.ts_row.specs.Row.{Element}
 use Rattle.ts_clip.proofs.GridPageLemmas.{behind_on, one_base}
 use Rattle.ts_clip.proofs.GridRowLemmas.{page_none, page_run, run_starts}
 use Rattle.ts_clip.proofs.grid_page_rows.rows_of_page.Goals as goal

@@ -2,7 +2,7 @@ use Rattle.std.proofs.Common.{◌≡◌, ℕ, ◌<◌, Ok, List, ◌++◌, lengt
 use Rattle.std.proofs.lemmas.List.{take_all}
 use Rattle.ts_space.specs.declared.place.Place.{Place}
 use Rattle.ts_row.specs.declared.kind.Column.{Column}
-use Rattle.ts_regular.specs.Offsets.{seen}
+use Rattle.ts_regular.specs.RegularPage.{seen}
 use Rattle.ts_regular.specs.Places.{OffsetPage, IsOn, all_in}
 use Rattle.ts_regular.specs.Range.{within}
 use Rattle.ts_sheets.specs.Stamped.{stamped}

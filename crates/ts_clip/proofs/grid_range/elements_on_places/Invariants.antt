@@ -1,7 +1,7 @@
 -- The elements of the pages before the index were handed on.
 use Rattle.std.proofs.Common.{Ok, List, take}
 use Rattle.ts_irregular.specs.Call.{Reads}
-use Rattle.ts_regular.specs.Offsets.{seen}
+use Rattle.ts_regular.specs.RegularPage.{seen}
 use Rattle.ts_regular.specs.Places.{all_in}
 use Rattle.ts_regular.specs.Range.{within}
 use Rattle.ts_sheets.specs.Stamped.{stamped}

@@ -2,12 +2,11 @@ use Rattle.std.proofs.Common.{ℕ, All, List, [], sym, ap, subst, ◌∙◌, ari
 use Rattle.std.proofs.lemmas.Result.{IfOk-weaker}
 use Rattle.ts_space.specs.declared.place.Place.{Place}
 use Rattle.ts_row.specs.declared.kind.Column.{Column}
-use Rattle.ts_row.specs.Element.{Element, seen}
-use Rattle.ts_sheets.specs.Range.{within_range}
+use Rattle.ts_row.specs.Row.{Element, seen}
+use Rattle.ts_sheets.specs.Stamped.{within_range, stamped}
 use Rattle.ts_regular.specs.Places.{AreOn, CanBeRead, all_in}
-use Rattle.ts_regular.specs.Offsets as offsets
-use Rattle.ts_regular.specs.Offsets.{OffsetElement}
-use Rattle.ts_sheets.specs.Stamped.{stamped}
+use Rattle.ts_regular.specs.RegularPage as offsets
+use Rattle.ts_regular.specs.RegularPage.{OffsetElement}
 use Rattle.ts_clip.proofs.GridAmongLemmas.{among_each, among_rising, among_told, among_within}
 use Rattle.ts_clip.proofs.GridElementLemmas.{range_stamped}
 use Rattle.ts_clip.proofs.GridWithinLemmas.{within_none}

@@ -1,8 +1,8 @@
 use Rattle.std.proofs.Common.{List, ap, subst, ◌∙◌}
 use Rattle.std.proofs.lemmas.Result.{on_ok_weaker}
 use Rattle.ts_row.specs.declared.kind.Column.{Column}
-use Rattle.ts_row.specs.Element.{Element}
-use Rattle.ts_sheets.specs.Range.{within_range}
+use Rattle.ts_row.specs.Row.{Element}
+use Rattle.ts_sheets.specs.Stamped.{within_range}
 use Rattle.ts_regular.specs.Places.{all_in}
 use Rattle.ts_regular_edits.proofs.RangeLemmas.{within_stamped}
 use Rattle.ts_clip.proofs.grid_rows.grid_rows_of_pages.Goals as goal

@@ -4,8 +4,8 @@ use Rattle.std.proofs.lemmas.Slice.Zip.{AllZip-long, zip_turn, zip_end}
 use Rattle.ts_page.specs.declared.page.Page.{Page}
 use Rattle.ts_space.specs.declared.place.Place.{Place}
 use Rattle.ts_row.specs.declared.kind.Column.{Column}
-use Rattle.ts_row.specs.Element.{Element}
-use Rattle.ts_regular.specs.Offsets.{elements_from}
+use Rattle.ts_row.specs.Row.{Element}
+use Rattle.ts_regular.specs.RegularPage.{elements_from}
 use Rattle.ts_regular.specs.Places.{OffsetPage, IsOn, all_in}
 use Rattle.ts_clip.proofs.GridPlaceLemmas.{page_of, pages_count}
 use Rattle.ts_regular.specs.Range.{within}

@@ -2,7 +2,7 @@
 use Rattle.std.proofs.Common.{ℕ, List, length, take}
 use Rattle.ts_regular.specs.Places.{OffsetPage, AreOn, all_in}
 use Rattle.ts_clip.specs.Series.{ArePagesOf}
-use Rattle.ts_calendar.specs.Intervals.{IsLaid}
+use Rattle.ts_calendar.specs.Calendars.{IsLaid}
 use Rattle.ts_regular.specs.Range.{within}
 use Rattle.ts_sheets.specs.Stamped.{stamped, HaveStarts}
 use Rattle.ts_clip.proofs.grid_rows.rows_in_memory.Given as goal

@@ -2,8 +2,8 @@ use Rattle.std.proofs.Common.{◌≡◌, ℕ, ◌<◌, Ok, List, length, take, g
 use Rattle.std.proofs.lemmas.List.{take_all}
 use Rattle.ts_space.specs.declared.place.Place.{Place}
 use Rattle.ts_row.specs.declared.kind.Column.{Column}
-use Rattle.ts_row.specs.Element.{Element}
-use Rattle.ts_regular.specs.Offsets.{elements_from}
+use Rattle.ts_row.specs.Row.{Element}
+use Rattle.ts_regular.specs.RegularPage.{elements_from}
 use Rattle.ts_regular.specs.Places.{OffsetPage, IsOn, all_in}
 use Rattle.ts_page.proofs.ReadsLemmas.{reads_more}
 use Rattle.ts_clip.proofs.GridPlaceLemmas.{page_of, pages_count}

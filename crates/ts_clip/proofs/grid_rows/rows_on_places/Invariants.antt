@@ -2,7 +2,7 @@
 use Rattle.std.proofs.Common.{Ok, take}
 use Rattle.ts_irregular.specs.Call.{Reads}
 use Rattle.ts_regular.specs.Places.{all_in}
-use Rattle.ts_calendar.specs.Intervals.{IsLaid}
+use Rattle.ts_calendar.specs.Calendars.{IsLaid}
 use Rattle.ts_regular.specs.Range.{within}
 use Rattle.ts_sheets.specs.Stamped.{stamped, HaveStarts}
 use Rattle.ts_clip.specs.Grid.{HoldsOfCellPages}

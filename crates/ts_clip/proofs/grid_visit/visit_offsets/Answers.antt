@@ -1,11 +1,10 @@
 use Rattle.std.proofs.Common.{◌≡◌, ℕ, ◌-◌, All, None, List, ℤ, map, take, drop, sym, ap, subst, ◌∙◌}
 use Rattle.ts_space.specs.declared.place.Place.{Place}
 use Rattle.ts_row.specs.declared.kind.Column.{Column}
-use Rattle.ts_row.specs.Element.{Element, seen}
+use Rattle.ts_row.specs.Row.{Element, seen}
 use Rattle.ts_offset.specs.Grid.{starts_of}
 use Rattle.ts_regular.specs.Places.{AreOn, CanBeRead, all_in}
-use Rattle.ts_entry.specs.Entry.{Entry}
-use Rattle.ts_entry.specs.Reading.{entry_at}
+use Rattle.ts_entry.specs.Entry.{Entry, entry_at}
 use Rattle.ts_clip.specs.Numbered.{numbered, seen_at}
 use Rattle.ts_clip.proofs.GridAmongLemmas.{among_each, among_rising, among_same, among_told, whole_entries}
 use Rattle.ts_clip.proofs.GridStampLemmas.{entries_stamped}

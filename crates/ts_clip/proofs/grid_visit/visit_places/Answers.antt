@@ -2,7 +2,7 @@ use Rattle.std.proofs.Common.{◌≡◌, ℕ, ◌+◌, ◌-◌, ◌<◌, IsTrue,
 use Rattle.std.proofs.lemmas.List.{drop-drop, drop_all}
 use Rattle.ts_space.specs.declared.place.Place.{Place}
 use Rattle.ts_row.specs.declared.kind.Column.{Column}
-use Rattle.ts_regular.specs.Offsets.{elements_from}
+use Rattle.ts_regular.specs.RegularPage.{elements_from}
 use Rattle.ts_regular.specs.Places.{OffsetPage, IsOn, all_in}
 use Rattle.ts_page.proofs.ReadsLemmas.{reads_more, reads_ok}
 use Rattle.ts_entry.specs.Entry.{Entry}

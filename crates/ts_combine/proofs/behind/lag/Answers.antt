@@ -2,11 +2,11 @@
 use Rattle.std.proofs.Common.{◌≡◌, ◌∙◌, ℤ, List, Result, sym, ap, subst, arith, to_z, of_z, w64}
 use Rattle.std.proofs.lemmas.Int.{ints}
 use Rattle.ts_base.specs.declared.refusal.Refusal.{Refusal}
-use Rattle.ts_row.specs.Element.{Element}
+use Rattle.ts_row.specs.Row.{Element}
 use Rattle.ts_base.specs.Answer.{within_rows}
 use Rattle.ts_offset.specs.declared.shape.Shape.{Shape}
-use Rattle.ts_calendar.specs.Intervals.{IsLaid}
-use Rattle.ts_combine.specs.Lag.{lagged}
+use Rattle.ts_calendar.specs.Calendars.{IsLaid}
+use Rattle.ts_combine.specs.Combine.{lagged}
 use Rattle.ts_combine.specs.Series.{AreOnStarts}
 use Rattle.ts_offset.specs.Shape.{IsLaidOut}
 use Rattle.ts_entry.specs.Entry.{elements_in}

@@ -1,6 +1,6 @@
 -- The rows along the common line are those on the common grid.
 use Rattle.std.proofs.Common.{◌∙◌, inl, ℤ, List, Result, sym, ap, subst}
-use Rattle.ts_row.specs.Element.{Element}
+use Rattle.ts_row.specs.Row.{Element}
 use Rattle.ts_base.specs.declared.refusal.Refusal.{Refusal}
 use Rattle.ts_base.specs.Answer.{within_rows}
 use Rattle.ts_combine.specs.Series.{side_of}

@@ -3,7 +3,7 @@ use Rattle.std.proofs.Common.{◌≡◌, ◌∙◌, ℤ, to_z, of_z, w64, sym, a
 use Rattle.std.specs.Int.{int_max}
 use Rattle.std.proofs.lemmas.Int.{ints}
 use Rattle.ts_calendar.proofs.JoinedLemmas.{grid-parts}
-use Rattle.ts_offset.specs.Walk.{IsFirstFrom}
+use Rattle.ts_offset.specs.Grid.{IsFirstFrom}
 use Rattle.ts_combine.specs.Line.{starts_up_to, AllExist}
 use Rattle.ts_combine.proofs.CommonLemmas.{line-is, common-starts, all-exist}
 use Rattle.ts_combine.proofs.line.common_line.Goals as goal

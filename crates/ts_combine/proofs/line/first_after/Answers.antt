@@ -3,7 +3,7 @@ use Rattle.std.proofs.Common.{◌≡◌, arith, ℤ, pos, ◌+ℤ◌, ◌-ℤ◌
 use Rattle.std.proofs.lemmas.Int.{ints}
 use Rattle.ts_calendar.proofs.LawLemmas.{starts-around}
 use Rattle.ts_calendar.specs.Line.{line_at}
-use Rattle.ts_offset.specs.Walk.{IsFirstFrom}
+use Rattle.ts_offset.specs.Grid.{IsFirstFrom}
 use Rattle.ts_offset.proofs.StartLemmas.{first-next}
 use Rattle.ts_combine.proofs.line.first_after.Goals as goal
 

@@ -1,9 +1,9 @@
 -- The interval around a stamp, where it starts there, or the one behind it.
 use Rattle.std.proofs.Common.{◌≡◌, ◌∙◌, ap, arith, ℤ, pos, ◌+ℤ◌, ◌≤ℤ◌, to_z, of_z, w64, subst}
 use Rattle.std.proofs.lemmas.Int.{ints}
-use Rattle.ts_calendar.specs.Intervals.{start_at}
+use Rattle.ts_calendar.specs.Calendars.{start_at}
 use Rattle.ts_calendar.proofs.LawLemmas.{starts-around}
-use Rattle.ts_offset.specs.Walk.{IsFirstFrom}
+use Rattle.ts_offset.specs.Grid.{IsFirstFrom}
 use Rattle.ts_offset.proofs.StartLemmas.{first-at, first-from-next, on-line, line}
 use Rattle.ts_combine.proofs.line.first_from.Goals as goal
 

@@ -1,7 +1,7 @@
 -- The starts that are held begin at the stamp and end at the next interval's start, where there is one.
 use Rattle.std.proofs.Common.{◌≡◌, ◌∙◌, sym, ap, arith, ℤ, pos, ◌+ℤ◌, to_z, of_z, w64, subst}
 use Rattle.std.proofs.lemmas.Int.{ints}
-use Rattle.ts_calendar.specs.Intervals.{start_at}
+use Rattle.ts_calendar.specs.Calendars.{start_at}
 use Rattle.ts_calendar.proofs.LawLemmas.{starts-around}
 use Rattle.ts_combine.specs.Line.{AreHeldFrom}
 use Rattle.ts_combine.proofs.HoldLemmas.{held-some, held-none}

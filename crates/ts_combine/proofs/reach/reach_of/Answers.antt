@@ -3,7 +3,7 @@ use Rattle.std.proofs.Common.{◌≡◌, ◌∙◌, sym, arith, ℤ, to_z, of_z,
 use Rattle.std.proofs.lemmas.Int.{ints}
 use Rattle.std.proofs.lemmas.Option.{slice_get_past, slice_get-get_or, same_Some}
 use Rattle.ts_row.specs.declared.row.Elem.{Elem}
-use Rattle.ts_offset.specs.Walk.{IsOnStart}
+use Rattle.ts_offset.specs.Grid.{IsOnStart}
 use Rattle.ts_combine.specs.Line.{AreHeldFrom}
 use Rattle.ts_combine.proofs.reach.reach_of.Goals as goal
 

@@ -1,7 +1,7 @@
 -- Each start exists, and its row is listed.
 use Rattle.std.proofs.Common.{◌≡◌, ◌∙◌, ◌++◌, ℕ, ℤ, pos, ◌+ℤ◌, to_z, of_z, w64, ap, subst, arith}
 use Rattle.std.proofs.lemmas.Int.{ints}
-use Rattle.ts_calendar.specs.Intervals.{start_at}
+use Rattle.ts_calendar.specs.Calendars.{start_at}
 use Rattle.ts_combine.specs.Rows.{Gathers}
 use Rattle.ts_combine.specs.Line.{starts_of_next}
 use Rattle.ts_combine.specs.Reach.{rows_with}

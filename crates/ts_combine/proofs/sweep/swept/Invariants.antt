@@ -1,6 +1,6 @@
 -- Up to a number all rows were gathered, and both reaches are tracked.
 use Rattle.std.proofs.Common.{length, ◌-◌, ◌+◌}
-use Rattle.ts_offset.specs.Walk.{gap}
+use Rattle.ts_offset.specs.Grid.{gap}
 use Rattle.ts_combine.proofs.SweptLemmas.{IsSwept}
 use Rattle.ts_combine.proofs.sweep.swept.Given as goal
 

@@ -5,7 +5,7 @@ use Rattle.ts_layout.specs.Meaning.{heading_in, catalogue_of}
 use Rattle.ts_answer.specs.Answer.{Answered}
 use Rattle.ts_answer.specs.View.{view}
 use Rattle.ts_answer.proofs.CallerLemmas.{defined_by, read_stopped_first, tried_stopped}
-use Rattle.ts_expr.specs.Binding.{binding}
+use Rattle.ts_expr.specs.Aggregates.{binding}
 use Rattle.ts_row.specs.declared.kind.Column.{Column}
 use Rattle.ts_shelf.proofs.ReadingLemmas.{said_out}
 use Rattle.ts_shelf.proofs.SeenLemmas.{not_some}

@@ -1,13 +1,13 @@
 use Rattle.std.proofs.Common.{◌≡◌, ℕ, List, Err, map, sym, subst, refl, to_z, of_z, w64}
 use Rattle.std.proofs.lemmas.Int.{to_z-of_z}
 use Rattle.ts_base.specs.declared.refusal.Refusal.TheVariants.{NotRegular}
-use Rattle.ts_row.specs.Element.{Element, seen}
+use Rattle.ts_row.specs.Row.{Element, seen}
 use Rattle.ts_space.specs.Directory.{places_of}
 use Rattle.ts_offset.specs.declared.shape.Shape.{Shape}
 use Rattle.ts_entry.specs.Entry.{filled}
 use Rattle.ts_entry.specs.Handed.{AreHanded}
 use Rattle.ts_clip.specs.Series.{HaveElements}
-use Rattle.ts_combine.specs.Lag.{lagged}
+use Rattle.ts_combine.specs.Combine.{lagged}
 use Rattle.ts_combined_rows.proofs.moved.moved_rows.Goals as goal
 
 pub returns-in_default-clause-read : goal.returns-in_default-clause-read

@@ -1,6 +1,6 @@
 use Rattle.std.proofs.Common.{◌≡◌, ℤ, pos, ◌+ℤ◌, ◌≤ℤ◌, ◌<ℤ◌, sym, subst, to_z, of_z, w64, arith}
 use Rattle.std.proofs.lemmas.Int.{ints}
-use Rattle.ts_row.specs.Element.{seen}
+use Rattle.ts_row.specs.Row.{seen}
 use Rattle.ts_shelf.proofs.ReadingLemmas.{then_reads, reads_as}
 use Rattle.ts_combined_rows.specs.Pairs.{IsPartSaid}
 use Rattle.ts_combined_rows.proofs.PairLemmas.{IsUnderWay, told_still, gone_on, all_said}

@@ -2,7 +2,7 @@ use Rattle.std.proofs.Common.{[], List, Some, ap, ◌∙◌, map}
 use Rattle.std.proofs.lemmas.List.{map-append}
 use Rattle.ts_items.specs.Items.{Item, items, items_from, place_from}
 use Rattle.ts_items.proofs.ItemLaws.{items_from-append}
-use Rattle.ts_command.specs.Script.{request_of}
+use Rattle.ts_command.specs.Grammar.{request_of}
 use Rattle.ts_command.proofs.laws.requests_of_a_front_come_first.Goals as goal
 
 pub returns : goal.returns

@@ -1,8 +1,8 @@
 use Rattle.std.proofs.Common.{◌≤◌, ap, sym, ◌∙◌, Option, Some, arith}
 use Rattle.std.specs.Option.{option_copied, option_map, unwrap_or}
 use Rattle.std.proofs.lemmas.Bool.Decides.{nat_tests}
-use Rattle.ts_row.specs.RowType.{Heading}
-use Rattle.ts_cells.specs.Cell.{page_room}
+use Rattle.ts_row.specs.Row.{Heading}
+use Rattle.ts_cells.specs.IrregularPage.{page_room}
 use Rattle.ts_layout.specs.Charges.{container_charge}
 use Rattle.ts_layout.proofs.CallerLemmas.{container_at, heading_there, quota_kept}
 use Rattle.ts_container.proofs.charges.keeps_quota.Goals as goal

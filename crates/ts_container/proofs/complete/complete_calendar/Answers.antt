@@ -1,7 +1,7 @@
 use Rattle.std.proofs.Common.{ℕ, Some, None, sym, ap, ◌∙◌, ◌≡◌}
 use Rattle.std.specs.Option.{option_map}
 use Rattle.std.proofs.lemmas.Result.{IfOk-weaker}
-use Rattle.ts_calendar.specs.Plan.{CalendarPlan}
+use Rattle.ts_calendar.specs.Calendars.{CalendarPlan}
 use Rattle.ts_model.specs.Definitions.{PatternDef, at_slot}
 use Rattle.ts_slots.specs.declared.slot.Written.TheVariants.{Form}
 use Rattle.ts_container.specs.Reading.{Completes, Makes}

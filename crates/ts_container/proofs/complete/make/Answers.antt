@@ -1,8 +1,7 @@
 use Rattle.std.proofs.Common.{◌≡◌, Bool, true, false, if◌then◌else◌, rules, Ok, Err, sym, ap, ◌∙◌}
 use Rattle.ts_base.specs.declared.refusal.Refusal.TheVariants.{BadCalendar, AllOff}
-use Rattle.ts_pattern.specs.Runs.{has_on}
-use Rattle.ts_calendar.specs.Plan.{CalendarPlan}
-use Rattle.ts_calendar.specs.Calendar.{is_late, is_apart, valid_calendar}
+use Rattle.ts_pattern.specs.Patterns.{has_on}
+use Rattle.ts_calendar.specs.Calendars.{CalendarPlan, is_late, is_apart, valid_calendar}
 use Rattle.ts_model.specs.declared.def.Def.TheVariants as defs
 use Rattle.ts_container.proofs.complete.make.Goals as goal
 

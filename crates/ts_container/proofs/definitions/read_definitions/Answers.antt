@@ -1,5 +1,5 @@
 use Rattle.std.proofs.Common.{Ok, sym, subst, ◌∙◌, ◌≡◌, ℕ, arith}
-use Rattle.ts_page.specs.Volume.{first_element_page}
+use Rattle.ts_page.specs.Pages.{first_element_page}
 use Rattle.ts_layout.specs.Rank.{rank_of_page}
 use Rattle.ts_container.specs.declared.found.Found.{Found}
 use Rattle.ts_container.specs.declared.found.Found.TheVariants as found

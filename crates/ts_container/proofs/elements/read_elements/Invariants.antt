@@ -1,5 +1,5 @@
 use Rattle.std.proofs.Common.{◌-◌, Ok}
-use Rattle.ts_page.specs.Volume.{first_element_page}
+use Rattle.ts_page.specs.Pages.{first_element_page}
 use Rattle.ts_container.specs.Elements.{AllRead}
 use Rattle.ts_container.specs.Survey.{Reads}
 use Rattle.ts_container.proofs.elements.read_elements.Given as goal

@@ -1,6 +1,6 @@
 use Rattle.std.proofs.Common.{rules, subst, IsTrue}
 use Rattle.ts_base.specs.Moment.{IsStamp}
-use Rattle.ts_pattern.specs.Runs.{is_pattern}
+use Rattle.ts_pattern.specs.Patterns.{is_pattern}
 use Rattle.ts_container.proofs.StandsLemmas.{own_stands, by_stands}
 use Rattle.ts_container.proofs.judge.form_has_definition.Goals as goal
 

@@ -1,6 +1,6 @@
 use Rattle.std.proofs.Common.{Some, sym, ap, subst, ◌∙◌}
 use Rattle.std.specs.Option.{option_copied}
-use Rattle.ts_offset.specs.Walk.{IsOnStart}
+use Rattle.ts_offset.specs.Grid.{IsOnStart}
 use Rattle.ts_model.specs.Definitions.{CalendarDef, at_slot}
 use Rattle.ts_container.proofs.ShapeLemmas.{calendar_at, of_one}
 use Rattle.ts_container.proofs.origins.is_on_calendar.Goals as goal

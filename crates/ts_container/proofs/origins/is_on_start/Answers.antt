@@ -1,5 +1,5 @@
 use Rattle.std.proofs.Common.{◌∙◌, sym, ap, rules, FitsSigned, to_z-of_z, w64}
-use Rattle.ts_calendar.specs.Intervals.{is_on, start_at}
+use Rattle.ts_calendar.specs.Calendars.{is_on, start_at}
 use Rattle.ts_slots.proofs.ParseLemmas.{both_ways}
 use Rattle.ts_container.proofs.OriginLemmas.{starts_around}
 use Rattle.ts_container.proofs.origins.is_on_start.Goals as goal

@@ -1,6 +1,6 @@
 use Rattle.std.proofs.Common.{◌∙◌, sym, w64}
 use Rattle.std.proofs.lemmas.Int.{to_z_pos}
-use Rattle.ts_regular.specs.Offsets.{elements_from}
+use Rattle.ts_regular.specs.RegularPage.{elements_from}
 use Rattle.ts_slots.proofs.ParseLemmas.{both_ways}
 use Rattle.ts_container.proofs.ContentLemmas.{columns_valid, grid_found, grid_refused, hidden_stamped}
 use Rattle.ts_container.proofs.span.span_on_grid.Goals as goal

@@ -1,6 +1,6 @@
 use Rattle.std.proofs.Common.{◌-◌, Ok}
 use Rattle.std.proofs.lemmas.Result.{IfOk-weaker}
-use Rattle.ts_page.specs.Volume.{first_element_page}
+use Rattle.ts_page.specs.Pages.{first_element_page}
 use Rattle.ts_container.proofs.SurveyLemmas.{reads_more, reads_ok, err_is}
 use Rattle.ts_container.proofs.ComposedLemmas.{all_before, all_listed, finished_found, finished_marked, elements_refused, refused_all, finish_reads, bad_before}
 use Rattle.ts_container.proofs.surveyed.survey.Goals as goal

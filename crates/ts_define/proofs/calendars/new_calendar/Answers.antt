@@ -1,8 +1,7 @@
 use Rattle.std.proofs.Common.{ℕ, Option, refl, ap, sym, ◌∙◌, subst}
-use Rattle.ts_pattern.specs.Plan.{Plan}
-use Rattle.ts_calendar.specs.Plan.{CalendarPlan}
+use Rattle.ts_pattern.specs.Patterns.{Plan}
+use Rattle.ts_calendar.specs.Calendars.{CalendarPlan, read_calendar, calendar_text}
 use Rattle.ts_calendar.specs.declared.text.CalendarText.{CalendarText}
-use Rattle.ts_calendar.specs.Text.{read_calendar, calendar_text}
 use Rattle.ts_model.specs.declared.kind.Kind.TheVariants.{Calendar}
 use Rattle.ts_model.specs.Catalogue.{with_plan}
 use Rattle.ts_answer.specs.Answer.{outcome, carried_out, create_calendar}

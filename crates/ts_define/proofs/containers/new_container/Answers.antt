@@ -5,8 +5,7 @@ use Rattle.ts_base.specs.declared.refusal.Refusal.TheVariants as refusals
 use Rattle.ts_base.specs.declared.fault.Trouble.{Trouble}
 use Rattle.ts_base.specs.declared.fault.Trouble.TheVariants.{Refused}
 use Rattle.ts_command.specs.declared.command.Command.TheVariants.{TSContainerCreate}
-use Rattle.ts_model.specs.Catalogue.{Container, quotas}
-use Rattle.ts_model.specs.Kinds.{with_named}
+use Rattle.ts_model.specs.Catalogue.{Container, quotas, with_named}
 use Rattle.ts_model.specs.Definitions.{Definitions, ContainerDef}
 use Rattle.ts_model.specs.declared.kind.Kind.TheVariants.{RowType, Container as Containers}
 use Rattle.ts_model.specs.declared.def.Def.{Def}

@@ -1,8 +1,7 @@
 use Rattle.std.proofs.Common.{IsTrue, Some, refl, sym, subst, arith}
 use Rattle.ts_base.specs.Moment.{IsStamp}
-use Rattle.ts_pattern.specs.Plan.{Plan}
-use Rattle.ts_pattern.specs.Runs.{is_pattern}
-use Rattle.ts_model.specs.Kinds.{with_named}
+use Rattle.ts_pattern.specs.Patterns.{Plan, is_pattern}
+use Rattle.ts_model.specs.Catalogue.{with_named}
 use Rattle.ts_model.specs.Definitions.{CalendarDef}
 use Rattle.ts_model.specs.declared.kind.Kind.TheVariants.{Calendar}
 use Rattle.ts_model.specs.declared.def.Def.{Def}

@@ -1,4 +1,4 @@
-use Rattle.ts_pattern.specs.Grammar.{read_plan}
+use Rattle.ts_pattern.specs.Patterns.{read_plan}
 use Rattle.ts_answer.specs.Answer.{outcome, carried_out, create_pattern}
 use Rattle.ts_answer.proofs.CallerLemmas.{goes, stops}
 use Rattle.ts_define.proofs.PatternLemmas.{found, read_of}

@@ -1,5 +1,5 @@
 use Rattle.std.proofs.Common.{ℕ, List, Some, refl, sym, subst, arith}
-use Rattle.ts_model.specs.Kinds.{with_named}
+use Rattle.ts_model.specs.Catalogue.{with_named}
 use Rattle.ts_model.specs.Definitions.{PatternDef}
 use Rattle.ts_model.specs.declared.kind.Kind.TheVariants.{Pattern}
 use Rattle.ts_model.specs.declared.def.Def.TheVariants as defs

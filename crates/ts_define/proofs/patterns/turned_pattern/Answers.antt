@@ -1,5 +1,5 @@
 use Rattle.std.proofs.Common.{subst}
-use Rattle.ts_pattern.specs.Plan.{Plan}
+use Rattle.ts_pattern.specs.Patterns.{Plan}
 use Rattle.ts_model.specs.declared.kind.Kind.TheVariants.{Pattern}
 use Rattle.ts_answer.specs.Answer.{outcome, carried_out, turn_pattern}
 use Rattle.ts_answer.proofs.CallerLemmas.{goes, stops, no_memory}

@@ -1,6 +1,6 @@
 use Rattle.std.proofs.Common.{Some, refl, ap, sym, ◌∙◌, subst, arith}
-use Rattle.ts_row.specs.RowType.{Heading, has_long_decimal}
-use Rattle.ts_model.specs.Kinds.{with_named}
+use Rattle.ts_row.specs.Row.{Heading, has_long_decimal}
+use Rattle.ts_model.specs.Catalogue.{with_named}
 use Rattle.ts_model.specs.Definitions.{Definitions, RowTypeDef}
 use Rattle.ts_model.specs.declared.kind.Kind.TheVariants.{RowType as RowTypes}
 use Rattle.ts_model.specs.declared.def.Def.{Def}

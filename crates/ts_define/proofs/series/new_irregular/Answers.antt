@@ -1,7 +1,6 @@
 use Rattle.std.proofs.Common.{ℕ, List, Some, None, refl, sym, subst, arith}
 use Rattle.std.specs.FinMap.{empty}
-use Rattle.ts_model.specs.Catalogue.{Series, Irregular}
-use Rattle.ts_model.specs.Kinds.{with_named}
+use Rattle.ts_model.specs.Catalogue.{Series, Irregular, with_named}
 use Rattle.ts_model.specs.Definitions.{SeriesDef}
 use Rattle.ts_model.specs.declared.kind.Kind.TheVariants.{Container, Series as AllSeries}
 use Rattle.ts_model.specs.declared.def.Def.TheVariants as defs

@@ -1,8 +1,7 @@
 use Rattle.std.proofs.Common.{Some, refl, sym, subst, ◌∙◌, arith}
 use Rattle.std.specs.FinMap.{empty}
 use Rattle.ts_base.specs.Moment.{IsStamp}
-use Rattle.ts_model.specs.Catalogue.{Series, Regular}
-use Rattle.ts_model.specs.Kinds.{with_named}
+use Rattle.ts_model.specs.Catalogue.{Series, Regular, with_named}
 use Rattle.ts_model.specs.Definitions.{SeriesDef}
 use Rattle.ts_model.specs.declared.kind.Kind.TheVariants.{Calendar, Container, Series as AllSeries}
 use Rattle.ts_model.specs.declared.def.Def.{Def}

@@ -1,7 +1,7 @@
 use Rattle.std.proofs.Common.{ℕ, List, subst}
 use Rattle.ts_layout.specs.Meaning.{catalogue_of}
 use Rattle.ts_answer.specs.Answer.{wanted}
-use Rattle.ts_model.specs.Kinds.{named}
+use Rattle.ts_model.specs.Catalogue.{named}
 use Rattle.ts_answer.specs.Slots.{Stands}
 use Rattle.ts_answer.specs.Tried.{IsTried}
 use Rattle.ts_define.proofs.slots.slot_named.Goals as goal

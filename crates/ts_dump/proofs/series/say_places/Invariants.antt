@@ -2,7 +2,7 @@
 use Rattle.std.proofs.Common.{◌≡◌, Ok, IsTrue, List, take}
 use Rattle.std.specs.List.{flat_map}
 use Rattle.ts_journal.specs.Journal.{pages}
-use Rattle.ts_row.specs.Element.{Element}
+use Rattle.ts_row.specs.Row.{Element}
 use Rattle.ts_space.specs.Directory.{places_of}
 use Rattle.ts_dump.specs.Elements.{texts_of_elements}
 use Rattle.ts_dump.specs.Held.{HaveParts}

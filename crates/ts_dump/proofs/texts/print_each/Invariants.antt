@@ -1,7 +1,7 @@
 -- The bytes so far are printed.
 use Rattle.std.proofs.Common.{◌≡◌, ◌++◌, take}
 use Rattle.std.specs.List.{flat_map}
-use Rattle.ts_row.specs.Printed.{quoted}
+use Rattle.ts_row.specs.Row.{quoted}
 use Rattle.ts_dump.proofs.texts.print_each.Given as goal
 
 abbrev pub invariant-loop-byte : goal.invariant-loop-byte

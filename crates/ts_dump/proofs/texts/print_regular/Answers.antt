@@ -1,7 +1,7 @@
 use Rattle.std.proofs.Common.{◌≡◌, ℕ, List, [], ◌∷◌, ◌++◌, ap, ◌∙◌}
 use Rattle.std.specs.Prelude.{codes}
 use Rattle.std.proofs.lemmas.Result.{on_ok_weaker}
-use Rattle.ts_base.specs.StampText.{stamp_text}
+use Rattle.ts_base.specs.Moment.{stamp_text}
 use Rattle.ts_dump_texts.specs.Texts.{quoted_before}
 use Rattle.ts_dump.proofs.TextLemmas.{behind, quoted_rest}
 use Rattle.ts_dump.proofs.texts.print_regular.Goals as goal

@@ -1,5 +1,5 @@
 use Rattle.std.proofs.Common.{◌≡◌, ◌<◌, ◌≤◌, All, length, drop}
-use Rattle.ts_expr.specs.Binding.{most_scale, bound_items}
+use Rattle.ts_expr.specs.Aggregates.{most_scale, bound_items}
 use Rattle.ts_expr.proofs.BindLemmas.{before_items}
 use Rattle.ts_expr.proofs.bind.bound_items.Given as goal
 

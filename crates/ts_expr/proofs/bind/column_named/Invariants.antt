@@ -1,5 +1,5 @@
 use Rattle.std.proofs.Common.{◌≡◌, drop}
-use Rattle.ts_expr.specs.Binding.{column_from}
+use Rattle.ts_expr.specs.Aggregates.{column_from}
 use Rattle.ts_expr.proofs.bind.column_named.Given as goal
 
 abbrev pub invariant-loop-number : goal.invariant-loop-number

@@ -1,5 +1,5 @@
 use Rattle.std.specs.Prelude.{length}
-use Rattle.ts_expr.specs.Fold.{total, mean}
+use Rattle.ts_expr.specs.Aggregates.{total, mean}
 use Rattle.ts_expr.proofs.MeanLemmas.{nearest, only}
 use Rattle.ts_expr.proofs.laws.a_mean_is_the_nearest.Goals as goal
 

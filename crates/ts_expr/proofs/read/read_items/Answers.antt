@@ -2,7 +2,7 @@ use Rattle.std.proofs.Common.{◌+◌, ◌-◌, ◌∷◌, [], ◌∙◌, sym, r
 use Rattle.std.proofs.lemmas.Result.{err_from_is_err_and}
 use Rattle.ts_text.specs.Phrase.{onto}
 use Rattle.ts_expr.specs.declared.item.Item.{Item}
-use Rattle.ts_expr.specs.Grammar.{further}
+use Rattle.ts_expr.specs.Aggregates.{further}
 use Rattle.ts_expr.proofs.GrammarLemmas.{further_more, further_end, further_full, further_refused}
 use Rattle.ts_expr.proofs.read.read_items.Goals as goal
 

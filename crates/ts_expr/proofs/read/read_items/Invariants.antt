@@ -1,6 +1,6 @@
 use Rattle.std.proofs.Common.{◌≡◌, ◌-◌, length}
 use Rattle.ts_text.specs.Phrase.{onto}
-use Rattle.ts_expr.specs.Grammar.{further}
+use Rattle.ts_expr.specs.Aggregates.{further}
 use Rattle.ts_expr.proofs.read.read_items.Given as goal
 
 abbrev pub invariant-loop : goal.invariant-loop

@@ -2,7 +2,7 @@ use Rattle.std.proofs.Common.{List, sym, ap, ◌∙◌}
 use Rattle.std.specs.Option.{option_map}
 use Rattle.std.proofs.lemmas.Result.{IfOk-weaker}
 use Rattle.ts_row.specs.declared.kind.Column.{Column}
-use Rattle.ts_cells.specs.Cell.{Element}
+use Rattle.ts_cells.specs.IrregularPage.{Element}
 use Rattle.ts_irregular.proofs.BytesLemmas.{part}
 use Rattle.ts_irregular.proofs.CellLemmas.{element_is, row_behind}
 use Rattle.ts_irregular.proofs.cell.row_at_index.Goals as goal

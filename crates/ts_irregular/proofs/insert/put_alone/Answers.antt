@@ -2,7 +2,7 @@
 use Rattle.std.proofs.Common.{◌≤◌, List, [], ◌∷◌, drop, refl, ap, subst, ◌∙◌, inr, arith}
 use Rattle.ts_base.specs.Moment.{IsStamp}
 use Rattle.ts_row.specs.declared.kind.Column.{Column}
-use Rattle.ts_cells.specs.Cell.{IsElement, page_room}
+use Rattle.ts_cells.specs.IrregularPage.{IsElement, page_room}
 use Rattle.ts_irregular.proofs.BytesLemmas.{room_some}
 use Rattle.ts_irregular.proofs.SeeLemmas.{behind_zeros}
 use Rattle.ts_irregular.proofs.KeptLemmas.{taken_element}

@@ -4,12 +4,10 @@ use Rattle.std.specs.Option.{option_map}
 use Rattle.std.proofs.lemmas.Int.{ints, to_z-of_z}
 use Rattle.std.specs.Int.{w64, from_be_bytes, cast_signed}
 use Rattle.ts_base.specs.Moment.{IsStamp, stamp_if_any}
-use Rattle.ts_row.specs.Row.{Row}
-use Rattle.ts_row.specs.Element.{Element}
+use Rattle.ts_row.specs.Row.{Row, Element}
 use Rattle.ts_row.specs.declared.kind.Column.{Column}
 use Rattle.ts_space.proofs.PlaceLemmas.{int_lt_no}
-use Rattle.ts_cells.specs.Cell.{cell_size}
-use Rattle.ts_cells.specs.IrregularPage.{AreElements, behind_head}
+use Rattle.ts_cells.specs.IrregularPage.{cell_size, AreElements, behind_head}
 use Rattle.ts_irregular.proofs.BytesLemmas.{Part, cell_within, part, units_in}
 use Rattle.ts_irregular.proofs.CellLemmas.{element_is}
 use Rattle.ts_irregular.proofs.last.element_of.Goals as goal

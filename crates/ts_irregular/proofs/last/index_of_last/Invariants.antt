@@ -1,6 +1,6 @@
 -- The last one that isn't hidden is among the first `left`.
 use Rattle.std.proofs.Common.{◌≡◌, ◌≤◌, List, length, take}
-use Rattle.ts_row.specs.Element.{Element}
+use Rattle.ts_row.specs.Row.{Element}
 use Rattle.ts_cells.specs.IrregularPage.{AreInOrder, behind_head}
 use Rattle.ts_irregular.specs.Edit.{last_seen}
 use Rattle.ts_irregular.proofs.last.index_of_last.Given as goal

@@ -5,7 +5,7 @@ use Rattle.std.specs.Cmp.{int_cmp_total, int_eq_equiv}
 use Rattle.std.specs.FinMap.{from_entries, get, same_map, int_cmp-IsAntisymmetric, get-from_entries, get-insert, get-remove}
 use Rattle.std.specs.FinMap.Entries.{find-put, find-where_key}
 use Rattle.ts_row.specs.Row.{Row}
-use Rattle.ts_cells.specs.Cell.{Element}
+use Rattle.ts_cells.specs.IrregularPage.{Element}
 use Rattle.ts_irregular.specs.Edit.{element_at, with_element, without_element}
 use Rattle.ts_irregular.proofs.laws.edits_are_those_of_a_map.Goals as goal
 

@@ -1,7 +1,6 @@
 -- The rank lies from `low` to `high`.
 use Rattle.std.proofs.Common.{◌≡◌, ◌-◌, ◌≤◌, List, length}
-use Rattle.ts_cells.specs.Cell.{Element}
-use Rattle.ts_cells.specs.IrregularPage.{AreInOrder, behind_head}
+use Rattle.ts_cells.specs.IrregularPage.{Element, AreInOrder, behind_head}
 use Rattle.ts_irregular.specs.Edit.{rank_of}
 use Rattle.ts_irregular.proofs.stamps.rank.Given as goal
 

@@ -1,6 +1,6 @@
 use Rattle.std.proofs.Common.{eqb, map, sym, ap, ◌∙◌, arith}
 use Rattle.std.proofs.lemmas.Bool.{le-ltb}
-use Rattle.ts_journal.specs.Entry.{Entry}
+use Rattle.ts_journal.specs.Journal.{Entry}
 use Rattle.ts_journal.specs.Stored.{entry_of}
 use Rattle.ts_journal.proofs.BatchLemmas.{no_entry, stands_at-is, stands_at-past}
 use Rattle.ts_journal.proofs.StoredLemmas.{kept_length, kept_at}

@@ -1,5 +1,5 @@
 use Rattle.std.proofs.Common.{◌+◌, ◌-◌, ◌/◌, ◌^◌, map, arith, ap}
-use Rattle.ts_journal.specs.Entry.{Entry}
+use Rattle.ts_journal.specs.Journal.{Entry}
 use Rattle.ts_journal.specs.Stored.{entry_of}
 use Rattle.ts_journal.proofs.BatchLemmas.{no_entry, place_above, place_below, place_within}
 use Rattle.ts_journal.proofs.StoredLemmas.{kept_length, kept_at}

@@ -1,7 +1,7 @@
 use Rattle.std.proofs.Common.{Ok, Err, ◌+◌, ◌≤◌, ◌∷◌, length, ap, sym, subst, arith, List, ℕ}
 use Rattle.std.specs.Int.{to_be_bytes, w32}
 use Rattle.ts_journal.specs.declared.batch.Change.{Change}
-use Rattle.ts_journal.specs.Entry.{entry_bytes}
+use Rattle.ts_journal.specs.Journal.{entry_bytes}
 use Rattle.ts_journal.specs.Pen.{pending, Adds}
 use Rattle.ts_journal.proofs.PenLemmas.{adds_failed, adds_then, adds_size, adds_within}
 use Rattle.ts_journal.proofs.record.add_entry.Goals as goal

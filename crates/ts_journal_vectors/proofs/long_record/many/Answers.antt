@@ -2,7 +2,7 @@ use Rattle.std.proofs.Common.{◌≢◌, ℕ, ◌<◌, ◌≤◌, List, [], ◌�
 use Rattle.std.proofs.lemmas.Bool.{cond_both}
 use Rattle.ts_journal.specs.declared.batch.Change.{Change}
 use Rattle.ts_journal.specs.declared.batch.Change.TheVariants.{Image, Free}
-use Rattle.ts_journal.specs.Entry.{Entry, IsAllowed, AreAllowed, put}
+use Rattle.ts_journal.specs.Journal.{Entry, IsAllowed, AreAllowed, put}
 use Rattle.ts_recover.proofs.CallerLemmas.{put_allowed}
 use Rattle.ts_journal_vectors.proofs.long_record.many.Goals as goal
 

@@ -1,5 +1,5 @@
 use Rattle.std.proofs.Common.{◌≢◌, ◌<◌, []}
-use Rattle.ts_journal.specs.Entry.{AreAllowed}
+use Rattle.ts_journal.specs.Journal.{AreAllowed}
 use Rattle.ts_journal_vectors.proofs.long_record.many.Given as goal
 
 abbrev pub invariant-loop-no : goal.invariant-loop-no

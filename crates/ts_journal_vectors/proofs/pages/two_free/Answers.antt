@@ -1,8 +1,7 @@
 use Rattle.std.proofs.Common.{◌≡◌, ℕ, zero, suc, ◌<◌, ◌≤◌, true, List, [], ◌∷◌, All, length, replicate, slice_index_or, sym, ◌∙◌, ap, subst, arith, rules, lit≤, lit<}
 use Rattle.std.proofs.lemmas.List.{get_or-replicate, length-replicate}
 use Rattle.ts_page.specs.declared.page.Page.{Page}
-use Rattle.ts_page.specs.Head.{zero_page}
-use Rattle.ts_page.specs.Pages.{IsListed, IsFreePage, kept}
+use Rattle.ts_page.specs.Pages.{zero_page, IsListed, IsFreePage, kept}
 use Rattle.ts_page.proofs.PagesLemmas.{zero_is_free}
 use Rattle.ts_journal_vectors.proofs.pages.two_free.Goals as goal
 

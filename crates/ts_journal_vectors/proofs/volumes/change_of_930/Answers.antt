@@ -1,7 +1,7 @@
 use Rattle.std.proofs.Common.{◌≡◌, List, [], ◌∷◌, inr, sym, ap, ◌∙◌, subst, lit<, lit≤}
 use Rattle.ts_journal.specs.declared.batch.Change.{Change}
 use Rattle.ts_journal.specs.declared.batch.Change.TheVariants.{Image, Free}
-use Rattle.ts_journal.specs.Entry.{Entry, IsAllowed, AreAllowed, put}
+use Rattle.ts_journal.specs.Journal.{Entry, IsAllowed, AreAllowed, put}
 use Rattle.ts_journal_vectors.proofs.volumes.change_of_930.Goals as goal
 
 page_allowed : (change : Change) → IsAllowed 931 (930, change)

@@ -1,6 +1,5 @@
 use Rattle.std.proofs.Common.{ℕ, ◌≡◌, ◌*◌, sym, subst, ◌∙◌, arith}
-use Rattle.ts_journal.specs.Journal.{IsVolumeSize, page_count, IsAtEnd}
-use Rattle.ts_journal.specs.Entry.{AreAllowed}
+use Rattle.ts_journal.specs.Journal.{IsVolumeSize, page_count, IsAtEnd, AreAllowed}
 use Rattle.ts_recover.proofs.CallerLemmas.{still_only}
 use Rattle.ts_journal_vectors.proofs.volumes.commit_there.Goals as goal
 

@@ -1,6 +1,5 @@
 use Rattle.std.proofs.Common.{ℕ, List, sym, subst}
-use Rattle.ts_journal.specs.Journal.{IsVolumeSize, page_count, StandsOver}
-use Rattle.ts_journal.specs.Entry.{AreAllowed}
+use Rattle.ts_journal.specs.Journal.{IsVolumeSize, page_count, StandsOver, AreAllowed}
 use Rattle.ts_recover.proofs.CallerLemmas.{still_only}
 use Rattle.ts_journal_vectors.proofs.volumes.settle_there.Goals as goal
 

@@ -1,7 +1,7 @@
 use Rattle.std.proofs.Common.{◌≡◌, arith, pos, ◌+ℤ◌, to_z, of_z, w64, subst}
 use Rattle.jiff_core.proofs.SignedLemmas.{signed_casts}
-use Rattle.ts_offset.specs.Walk.{IsFirstFrom, IsEnd}
-use Rattle.ts_calendar.specs.Intervals.{IsLaid}
+use Rattle.ts_offset.specs.Grid.{IsFirstFrom, IsEnd}
+use Rattle.ts_calendar.specs.Calendars.{IsLaid}
 use Rattle.ts_offset.proofs.StartLemmas.{first-next, end-after}
 use Rattle.ts_offset.proofs.walk.end_of.Goals as goal
 

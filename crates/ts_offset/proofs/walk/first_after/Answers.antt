@@ -1,6 +1,6 @@
 use Rattle.std.proofs.Common.{◌≡◌, arith, pos, ◌+ℤ◌, to_z, of_z, w64, subst}
 use Rattle.jiff_core.proofs.SignedLemmas.{signed_casts}
-use Rattle.ts_offset.specs.Walk.{IsFirstFrom}
+use Rattle.ts_offset.specs.Grid.{IsFirstFrom}
 use Rattle.ts_offset.proofs.StartLemmas.{first-next}
 use Rattle.ts_offset.proofs.walk.first_after.Goals as goal
 

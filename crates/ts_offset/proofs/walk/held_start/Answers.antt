@@ -1,7 +1,7 @@
 use Rattle.std.proofs.Common.{◌≡◌, ◌∙◌, sym, ap, arith, to_z, of_z, w64}
 use Rattle.jiff_core.proofs.SignedLemmas.{signed_casts}
-use Rattle.ts_calendar.specs.Intervals.{IsOnStamp}
-use Rattle.ts_offset.specs.Walk.{on_start, IsOnStart}
+use Rattle.ts_calendar.specs.Calendars.{IsOnStamp}
+use Rattle.ts_offset.specs.Grid.{on_start, IsOnStart}
 use Rattle.ts_offset.proofs.WindowLemmas.{on-start}
 use Rattle.ts_offset.proofs.HeldLemmas.{held-at, on-start-is, started, missing, none-on}
 use Rattle.ts_offset.proofs.walk.held_start.Goals as goal

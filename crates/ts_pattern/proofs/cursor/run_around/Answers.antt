@@ -1,6 +1,6 @@
 use Rattle.std.proofs.Common.{arith, ap}
 use Rattle.ts_pattern.specs.declared.run.Run.{Run}
-use Rattle.ts_pattern.specs.Runs.{run}
+use Rattle.ts_pattern.specs.Patterns.{run}
 use Rattle.std.proofs.Common.{false}
 use Rattle.ts_pattern.proofs.CursorLemmas.{total-take-next, run-read}
 use Rattle.ts_pattern.proofs.cursor.run_around.Goals as goal

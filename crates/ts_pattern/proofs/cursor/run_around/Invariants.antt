@@ -1,5 +1,5 @@
 use Rattle.std.proofs.Common.{◌≡◌, ◌+◌, ◌<◌, take, drop}
-use Rattle.ts_pattern.specs.Runs.{total}
+use Rattle.ts_pattern.specs.Patterns.{total}
 use Rattle.ts_pattern.proofs.cursor.run_around.Given as goal
 
 abbrev pub invariant-loop-index : goal.invariant-loop-index

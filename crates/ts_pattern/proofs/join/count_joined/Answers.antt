@@ -1,5 +1,5 @@
 use Rattle.std.proofs.Common.{◌≡◌, ◌≤◌, ◌+◌, ◌∙◌, sym, ap, arith, length, refl}
-use Rattle.ts_pattern.specs.Runs.{runs_of}
+use Rattle.ts_pattern.specs.Patterns.{runs_of}
 use Rattle.ts_pattern.specs.Growth.{extended}
 use Rattle.ts_pattern.specs.Line.{side_by_side}
 use Rattle.ts_pattern.proofs.GrowLemmas.{join_step, runs_of-zero, last_flag, length-extended_other, length-extended_same, last_flag-extended}

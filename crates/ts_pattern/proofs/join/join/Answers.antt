@@ -1,5 +1,5 @@
 use Rattle.std.proofs.Common.{◌≡◌, ◌+◌, ◌∙◌, sym, ap, arith, length, refl}
-use Rattle.ts_pattern.specs.Runs.{total, runs_of}
+use Rattle.ts_pattern.specs.Patterns.{total, runs_of}
 use Rattle.ts_pattern.specs.Growth.{extended}
 use Rattle.ts_pattern.specs.Line.{side_by_side}
 use Rattle.ts_pattern.proofs.JoinLemmas.{total-runs_from}

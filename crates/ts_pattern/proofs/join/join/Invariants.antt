@@ -1,5 +1,5 @@
 use Rattle.std.proofs.Common.{◌≡◌, ◌≤◌, ◌+◌, ◌-◌, length}
-use Rattle.ts_pattern.specs.Runs.{runs_of}
+use Rattle.ts_pattern.specs.Patterns.{runs_of}
 use Rattle.ts_pattern.specs.Line.{side_by_side}
 use Rattle.ts_pattern.proofs.join.join.Given as goal
 

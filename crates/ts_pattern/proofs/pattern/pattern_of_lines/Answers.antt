@@ -1,5 +1,5 @@
 use Rattle.std.proofs.Common.{◌≡◌, ◌∙◌, ◌≤◌, sym, ap, length, refl}
-use Rattle.ts_pattern.specs.Runs.{total, is_pattern, runs_of}
+use Rattle.ts_pattern.specs.Patterns.{total, is_pattern, runs_of}
 use Rattle.ts_pattern.specs.Line.{side_by_side}
 use Rattle.ts_pattern.proofs.JoinLemmas.{total-runs_from}
 use Rattle.ts_pattern.proofs.GrowLemmas.{is_pattern-runs_of}

@@ -3,7 +3,7 @@ use Rattle.std.proofs.lemmas.Result.{err_from_is_err_and}
 use Rattle.ts_text.specs.Phrase.{repeated, onto}
 use Rattle.ts_text.proofs.CallerLemmas.{exactly_refused, onto_more, onto_end, list_refused}
 use Rattle.ts_pattern.specs.declared.run.Run.{Run}
-use Rattle.ts_pattern.specs.Grammar.{run_in, are_counts}
+use Rattle.ts_pattern.specs.Patterns.{run_in, are_counts}
 use Rattle.ts_pattern.proofs.GrammarLemmas.{run_shrinks, are_counts-push}
 use Rattle.ts_pattern.proofs.read.read_runs.Goals as goal
 

@@ -1,6 +1,6 @@
 use Rattle.std.proofs.Common.{◌≡◌, ◌+◌, ◌≤◌, length, IsTrue}
 use Rattle.ts_text.specs.Phrase.{repeated, onto}
-use Rattle.ts_pattern.specs.Grammar.{run_in, are_counts}
+use Rattle.ts_pattern.specs.Patterns.{run_in, are_counts}
 use Rattle.ts_pattern.proofs.read.read_runs.Given as goal
 
 abbrev pub invariant-loop-behind : goal.invariant-loop-behind

@@ -1,5 +1,5 @@
 use Rattle.std.proofs.Common.{◌≡◌, ◌+◌, ◌≤◌, drop}
-use Rattle.ts_pattern.specs.Runs.{are_merged, total}
+use Rattle.ts_pattern.specs.Patterns.{are_merged, total}
 use Rattle.ts_pattern.proofs.RunLemmas.{merged_after}
 use Rattle.ts_pattern.proofs.runs.checked_length.Given as goal
 

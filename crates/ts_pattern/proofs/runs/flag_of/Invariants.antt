@@ -1,5 +1,5 @@
 use Rattle.std.proofs.Common.{◌≡◌, ◌<◌, drop}
-use Rattle.ts_pattern.specs.Runs.{flag_at, total}
+use Rattle.ts_pattern.specs.Patterns.{flag_at, total}
 use Rattle.ts_pattern.proofs.runs.flag_of.Given as goal
 
 abbrev pub invariant-loop-run : goal.invariant-loop-run

@@ -1,6 +1,6 @@
 use Rattle.std.proofs.Common.{arith, false}
 use Rattle.std.proofs.Math.Nat.{mul-le-mul_right}
-use Rattle.ts_pattern.specs.Runs.{run}
+use Rattle.ts_pattern.specs.Patterns.{run}
 use Rattle.ts_pattern.proofs.CursorLemmas.{count-le}
 use Rattle.ts_pattern.proofs.runs.scaled_runs.Goals as goal
 

@@ -1,5 +1,5 @@
 use Rattle.std.proofs.Common.{◌≡◌, map, take}
-use Rattle.ts_pattern.specs.Runs.{scaled}
+use Rattle.ts_pattern.specs.Patterns.{scaled}
 use Rattle.ts_pattern.proofs.runs.scaled_runs.Given as goal
 
 abbrev pub invariant-loop-run : goal.invariant-loop-run

@@ -1,6 +1,6 @@
 use Rattle.std.proofs.Common.{◌∙◌, ◌+◌, sym, ap, arith, refl, false, take, List, slice_index_or}
 use Rattle.ts_pattern.specs.declared.run.Run.{Run}
-use Rattle.ts_pattern.specs.Runs.{run, total, flag_at}
+use Rattle.ts_pattern.specs.Patterns.{run, total, flag_at}
 use Rattle.ts_pattern.specs.Growth.{extended}
 use Rattle.ts_pattern.proofs.JoinLemmas.{total-runs_from}
 use Rattle.ts_pattern.proofs.CursorLemmas.{total-take-le, total-take-next}

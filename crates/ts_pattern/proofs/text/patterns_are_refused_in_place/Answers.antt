@@ -1,7 +1,7 @@
 use Rattle.std.proofs.Common.{[]}
-use Rattle.ts_text.specs.Plain.{plain_front}
+use Rattle.ts_text.specs.Phrase.{plain_front}
 use Rattle.ts_text.proofs.CallerLemmas.{Any, in_place, plain_laws, plain_ending}
-use Rattle.ts_pattern.specs.Grammar.{pattern_in}
+use Rattle.ts_pattern.specs.Patterns.{pattern_in}
 use Rattle.ts_pattern.proofs.GrammarLemmas.{pattern_yields}
 use Rattle.ts_pattern.proofs.text.patterns_are_refused_in_place.Goals as goal
 

@@ -1,5 +1,5 @@
 use Rattle.std.proofs.Common.{◌≡◌, ◌++◌, length}
-use Rattle.ts_pattern.specs.Grammar.{printed_runs}
+use Rattle.ts_pattern.specs.Patterns.{printed_runs}
 use Rattle.ts_pattern.proofs.text.print_runs.Given as goal
 
 abbrev pub invariant-loop-rest : goal.invariant-loop-rest

@@ -1,5 +1,5 @@
 use Rattle.std.proofs.Common.{◌≡◌, ◌*◌, ◌≤◌, take}
-use Rattle.ts_pattern.specs.Runs.{total}
+use Rattle.ts_pattern.specs.Patterns.{total}
 use Rattle.ts_pattern.proofs.text.total_length.Given as goal
 
 abbrev pub invariant-loop-run : goal.invariant-loop-run

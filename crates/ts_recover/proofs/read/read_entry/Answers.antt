@@ -1,7 +1,7 @@
 use Rattle.std.proofs.Common.{◌≡◌, ◌+◌, ◌-◌, ◌≤◌, length, take, drop, ap, sym, ◌∙◌, arith, length-drop}
 use Rattle.std.proofs.lemmas.Bool.{and_parts, leb-true}
 use Rattle.std.proofs.lemmas.List.{length-take-le}
-use Rattle.ts_page.specs.Head.{bytes_at}
+use Rattle.ts_page.specs.Pages.{bytes_at}
 use Rattle.ts_recover.proofs.EntryLemmas.{zero_length, too_short, found_not_allowed, found_image, found_freed, found_neither}
 use Rattle.ts_recover.proofs.read.read_entry.Goals as goal
 

@@ -1,6 +1,6 @@
 use Rattle.std.proofs.Common.{ℕ, List, take, drop, ap, ◌∙◌}
 use Rattle.std.specs.Str.{bytes_eq}
-use Rattle.ts_journal.specs.Gate.{is_open, open_gate}
+use Rattle.ts_journal.specs.Journal.{is_open, open_gate}
 use Rattle.ts_recover.proofs.read.read_gate.Goals as goal
 
 pub returns-clause-ok : goal.returns-clause-ok

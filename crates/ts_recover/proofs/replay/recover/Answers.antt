@@ -3,7 +3,7 @@ use Rattle.ts_journal.specs.Journal.{IsVolumeSize, StaysUnread}
 use Rattle.ts_recover.specs.Reading.{JournalRead}
 use Rattle.ts_journal.proofs.CallerLemmas.{volume_long, stays_unread, journal_malformed, journal_is_none}
 use Rattle.std.proofs.lemmas.Option.{none-some}
-use Rattle.ts_page.specs.Volume.{first_element_page}
+use Rattle.ts_page.specs.Pages.{first_element_page}
 use Rattle.ts_recover.proofs.replay.recover.Goals as goal
 
 pub read_journal-requires-clause-size : goal.read_journal-requires-clause-size

@@ -1,6 +1,5 @@
 use Rattle.std.proofs.Common.{◌≡◌, ◌+◌, ◌<◌, ◌≤◌, ℕ, List, length, refl, sym, ap, ◌∙◌, arith}
-use Rattle.ts_regular.specs.Cell.{Cell}
-use Rattle.ts_regular.specs.RegularPage.{behind_head, filled_count}
+use Rattle.ts_regular.specs.RegularPage.{Cell, behind_head, filled_count}
 use Rattle.ts_regular.specs.OnePage.{without_row}
 use Rattle.ts_regular.specs.Cut.{cells_outside}
 use Rattle.ts_regular.proofs.RangeLemmas.{outside_long, outside_fit, outside_next, cells_begin, cells_next, cells_end}

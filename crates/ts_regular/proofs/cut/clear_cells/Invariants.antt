@@ -1,7 +1,6 @@
 -- The cells are without the elements from the range's first offset up to that of the index.
 use Rattle.std.proofs.Common.{◌≡◌, ◌+◌, ◌≤◌, List, length}
-use Rattle.ts_regular.specs.Cell.{Cell, regular_room}
-use Rattle.ts_regular.specs.RegularPage.{AreCells, behind_head, filled_count}
+use Rattle.ts_regular.specs.RegularPage.{Cell, regular_room, AreCells, behind_head, filled_count}
 use Rattle.ts_regular.specs.Cut.{cells_outside}
 use Rattle.ts_regular.proofs.cut.clear_cells.Given as goal
 

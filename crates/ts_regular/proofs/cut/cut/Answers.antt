@@ -1,8 +1,7 @@
 -- The page is read once: it stays where no element went or none is left, and else has those that are left.
 use Rattle.std.proofs.Common.{◌≡◌, ⊎_elim, IsTrue, ℕ, List, drop, refl, sym, ap, subst, ◌∙◌, arith}
 use Rattle.ts_row.specs.declared.kind.Column.{Column}
-use Rattle.ts_regular.specs.Cell.{Cell}
-use Rattle.ts_regular.specs.RegularPage.{filled_count, regular_page}
+use Rattle.ts_regular.specs.RegularPage.{Cell, filled_count, regular_page}
 use Rattle.ts_regular.specs.Places.{OffsetPage, IsOn}
 use Rattle.ts_regular.specs.Cut.{cells_outside, recounted}
 use Rattle.ts_regular.proofs.HeadLemmas.{behind_told}

@@ -1,7 +1,7 @@
 -- Each cell more is judged by itself.
 use Rattle.std.proofs.Common.{◌≡◌, ◌+◌, ◌<◌, ◌||◌, Bool, ℕ, List, length, refl, sym, ap, subst, ◌∙◌, arith}
 use Rattle.ts_row.specs.declared.kind.Column.{Column}
-use Rattle.ts_regular.specs.Cell.{regular_room}
+use Rattle.ts_regular.specs.RegularPage.{regular_room}
 use Rattle.ts_regular.specs.OnePage.{cell_at}
 use Rattle.ts_regular.proofs.JudgeLemmas.{SoFar, cell_there, cell_range, so_far_few, so_far_more, so_far_empty, so_far_as, none_filled, if_none_any}
 use Rattle.ts_regular.proofs.extent.extent_of_cells.Goals as goal

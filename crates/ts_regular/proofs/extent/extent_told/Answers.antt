@@ -4,8 +4,7 @@ use Rattle.std.proofs.Math.Facts.{Fits-lt-pow}
 use Rattle.ts_page.specs.declared.page.Head.{Head}
 use Rattle.ts_page.specs.declared.page.Head.TheVariants.{Regular}
 use Rattle.ts_row.specs.declared.kind.Column.{Column}
-use Rattle.ts_regular.specs.Cell.{regular_room}
-use Rattle.ts_regular.specs.RegularPage.{told_in}
+use Rattle.ts_regular.specs.RegularPage.{regular_room, told_in}
 use Rattle.ts_regular.proofs.HeadLemmas.{all_behind, behind_told, head_told, page_again}
 use Rattle.ts_regular.proofs.JudgeLemmas.{if_some_weaker, if_none_weaker, some_one}
 use Rattle.ts_regular.proofs.extent.extent_told.Goals as goal

@@ -2,10 +2,10 @@
 use Rattle.std.proofs.Common.{◌≡◌, ◌-◌, ◌<◌, All, ℤ, pos, Some, None, List, ℕ, length, sym, ap, subst, ◌∙◌, arith, get_or}
 use Rattle.ts_space.specs.declared.place.Place.{Place}
 use Rattle.ts_space.specs.Place.{search_of}
-use Rattle.ts_page.specs.Head.{head_of}
+use Rattle.ts_page.specs.Pages.{head_of}
 use Rattle.ts_page.specs.declared.page.Head.TheVariants.{Regular}
 use Rattle.ts_row.specs.declared.kind.Column.{Column}
-use Rattle.ts_regular.specs.Cell.{base_of, regular_room}
+use Rattle.ts_regular.specs.RegularPage.{base_of, regular_room}
 use Rattle.ts_regular.specs.Places.{CanBeRead}
 use Rattle.ts_regular.specs.OnePage.{IsToldOn, cell_at}
 use Rattle.ts_regular.specs.Call.{IsRowIn}

@@ -1,7 +1,6 @@
 -- No cell from `left` on has an element that isn't hidden.
 use Rattle.std.proofs.Common.{◌≡◌, ◌<◌, ◌≤◌, ℕ, false, List, length}
-use Rattle.ts_regular.specs.Cell.{Cell, regular_room}
-use Rattle.ts_regular.specs.RegularPage.{AreCells, behind_head}
+use Rattle.ts_regular.specs.RegularPage.{Cell, regular_room, AreCells, behind_head}
 use Rattle.ts_regular.specs.OnePage.{cell_at, is_seen}
 use Rattle.ts_regular.proofs.last.index_of_last.Given as goal
 

@@ -1,5 +1,5 @@
 use Rattle.std.proofs.Common.{◌<◌, length, sym, ap, ◌∙◌, arith}
-use Rattle.ts_regular.specs.Offsets.{last_of}
+use Rattle.ts_regular.specs.RegularPage.{last_of}
 use Rattle.ts_regular.proofs.LastLemmas.{none_seen, last_found}
 use Rattle.ts_regular.proofs.last.last_among.Goals as goal
 

@@ -2,10 +2,10 @@
 use Rattle.std.proofs.Common.{◌≡◌, Some, None, List, ℕ, ap, ◌∙◌, arith}
 use Rattle.std.proofs.lemmas.Int.{ints}
 use Rattle.ts_space.specs.declared.place.Place.{Place}
-use Rattle.ts_page.specs.Head.{head_of}
+use Rattle.ts_page.specs.Pages.{head_of}
 use Rattle.ts_page.specs.declared.page.Head.TheVariants.{Regular}
 use Rattle.ts_row.specs.declared.kind.Column.{Column}
-use Rattle.ts_regular.specs.Offsets.{elements_from, last_seen}
+use Rattle.ts_regular.specs.RegularPage.{elements_from, last_seen}
 use Rattle.ts_regular.proofs.HeadLemmas.{behind_told, head_told, length-page, part_behind}
 use Rattle.ts_regular.proofs.KeptLemmas.{page_from, pos_one, read_on}
 use Rattle.ts_regular.proofs.LastLemmas.{alone}

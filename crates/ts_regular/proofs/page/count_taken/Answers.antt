@@ -1,6 +1,6 @@
 use Rattle.std.proofs.Common.{◌≡◌, Some, ◌∙◌}
 use Rattle.ts_page.specs.declared.page.Head.TheVariants.{Regular}
-use Rattle.ts_page.specs.Head.{head_of}
+use Rattle.ts_page.specs.Pages.{head_of}
 use Rattle.ts_regular.proofs.HeadLemmas.{head_told}
 use Rattle.ts_regular.proofs.page.count_taken.Goals as goal
 

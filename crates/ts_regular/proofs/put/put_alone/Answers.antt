@@ -2,7 +2,7 @@
 use Rattle.std.proofs.Common.{rules, None, List, drop, ap, ◌∙◌, inr, arith}
 use Rattle.std.proofs.lemmas.List.{length-replicate}
 use Rattle.ts_row.specs.declared.kind.Column.{Column}
-use Rattle.ts_regular.specs.Cell.{regular_room}
+use Rattle.ts_regular.specs.RegularPage.{regular_room}
 use Rattle.ts_regular.specs.OnePage.{no_cells}
 use Rattle.ts_regular.proofs.KeptLemmas.{alone_on, behind_zeros, no_count, no_room, taken_element}
 use Rattle.ts_regular.proofs.put.put_alone.Goals as goal

@@ -5,7 +5,7 @@ use Rattle.ts_space.specs.declared.moved.Come.TheVariants.{One}
 use Rattle.ts_space.specs.Moved.{moved_to}
 use Rattle.ts_space.specs.Place.{place_at, search_of}
 use Rattle.ts_row.specs.declared.kind.Column.{Column}
-use Rattle.ts_regular.specs.Cell.{base_of, regular_room}
+use Rattle.ts_regular.specs.RegularPage.{base_of, regular_room}
 use Rattle.ts_regular.specs.Places.{ArePlaces}
 use Rattle.ts_regular.specs.OnePage.{IsEditedOn, IsPutAlone, with_row}
 use Rattle.ts_regular.specs.Call.{IsPut}

@@ -4,7 +4,7 @@ use Rattle.ts_space.specs.declared.place.Place.{Place}
 use Rattle.ts_space.specs.declared.moved.Come.{Come}
 use Rattle.ts_space.specs.Place.{search_of}
 use Rattle.ts_row.specs.declared.kind.Column.{Column}
-use Rattle.ts_regular.specs.Cell.{base_of}
+use Rattle.ts_regular.specs.RegularPage.{base_of}
 use Rattle.ts_regular.specs.Places.{ArePlaces, IsPlace}
 use Rattle.ts_regular.specs.OnePage.{IsTakenOn}
 use Rattle.ts_regular.specs.Call.{IsMissing, IsRemoved}

@@ -2,7 +2,7 @@
 use Rattle.std.proofs.Common.{rules, ◌<◌, IsTrue, w64, None, ℕ, List, ◌∷◌, drop, refl, sym, ap, ◌∙◌, arith}
 use Rattle.std.proofs.Math.ListN.{length-set}
 use Rattle.std.proofs.lemmas.Int.{to_z-of_z}
-use Rattle.ts_page.specs.Head.{zero_page}
+use Rattle.ts_page.specs.Pages.{zero_page}
 use Rattle.ts_row.specs.declared.kind.Column.{Column}
 use Rattle.ts_regular.specs.RegularPage.{regular_page}
 use Rattle.ts_regular.specs.Places.{OffsetPage, IsOn}

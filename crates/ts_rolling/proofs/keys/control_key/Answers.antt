@@ -1,4 +1,4 @@
-use Rattle.ts_rolling.specs.Keys.{control_key}
+use Rattle.ts_rolling.specs.Sets.{control_key}
 use Rattle.ts_rolling.proofs.keys.control_key.Goals as goal
 
 pub returns : goal.returns

@@ -1,7 +1,7 @@
 use Rattle.std.proofs.Common.{◌≡◌, ◌++◌, sym, ap, subst, ◌∙◌, append_assoc, IsTrue}
 use Rattle.std.proofs.lemmas.Result.{IfOk-weaker}
 use Rattle.ts_base.specs.Name.{is_key}
-use Rattle.ts_rolling.specs.Keys.{numbered_key, digits_of}
+use Rattle.ts_rolling.specs.Sets.{numbered_key, digits_of}
 use Rattle.ts_rolling.proofs.KeyLemmas.{is_key-numbered}
 use Rattle.ts_rolling.proofs.keys.numbered_key.Goals as goal
 

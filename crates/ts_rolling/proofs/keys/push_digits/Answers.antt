@@ -1,7 +1,7 @@
 use Rattle.std.proofs.Common.{◌≡◌, ◌+◌, ◌-◌, ◌/◌, ◌%◌, ◌^◌, ◌∷◌, ◌++◌, sym, ap, ◌∙◌, append_assoc, arith}
 use Rattle.std.proofs.lemmas.Nat.{mod_below}
 use Rattle.std.proofs.lemmas.List.{append-nil}
-use Rattle.ts_rolling.specs.Keys.{digits_of}
+use Rattle.ts_rolling.specs.Sets.{digits_of}
 use Rattle.ts_rolling.proofs.DigitLemmas.{power_pos, digits_of-none, digits_of-more}
 use Rattle.ts_rolling.proofs.keys.push_digits.Goals as goal
 

@@ -1,6 +1,6 @@
 use Rattle.std.proofs.Common.{◌≡◌, ◌+◌, ◌^◌, ◌<◌, ◌≤◌, ◌++◌}
 use Rattle.arrayvec.specs.ArrayVec.{array_vec_len}
-use Rattle.ts_rolling.specs.Keys.{digits_of}
+use Rattle.ts_rolling.specs.Sets.{digits_of}
 use Rattle.ts_rolling.proofs.keys.push_digits.Given as goal
 
 abbrev pub decreases-loop-left : goal.decreases-loop-left

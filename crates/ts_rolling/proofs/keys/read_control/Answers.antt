@@ -1,5 +1,5 @@
 use Rattle.std.proofs.Common.{◌≡◌, ◌≤◌, ◌↔◌, Some, option_and_then, codes, sym, ap, subst, ◌∙◌}
-use Rattle.ts_rolling.specs.Keys.{read_number, kept_number, read_control, control_key, most_kept}
+use Rattle.ts_rolling.specs.Sets.{read_number, kept_number, read_control, control_key, most_kept}
 use Rattle.ts_rolling.proofs.KeyLemmas.{control_form}
 use Rattle.ts_rolling.proofs.keys.read_control.Goals as goal
 

@@ -1,5 +1,5 @@
 use Rattle.std.proofs.Common.{◌≡◌, ◌<◌, ◌↔◌, Some, codes, sym, subst, ◌∙◌}
-use Rattle.ts_rolling.specs.Keys.{read_number, read_window, window_key, most_windows}
+use Rattle.ts_rolling.specs.Sets.{read_number, read_window, window_key, most_windows}
 use Rattle.ts_rolling.proofs.KeyLemmas.{window_form}
 use Rattle.ts_rolling.proofs.keys.read_window.Goals as goal
 

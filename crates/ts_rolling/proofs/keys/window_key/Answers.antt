@@ -1,4 +1,4 @@
-use Rattle.ts_rolling.specs.Keys.{window_key}
+use Rattle.ts_rolling.specs.Sets.{window_key}
 use Rattle.ts_rolling.proofs.keys.window_key.Goals as goal
 
 pub returns : goal.returns

@@ -1,8 +1,7 @@
 use Rattle.std.proofs.Common.{◌≡◌, ℕ, ◌<◌, ◌≤◌, Bool, true, false, T, Some, None, Option, List, refl, sym, ap, ◌∙◌}
 use Rattle.std.specs.FinMap.{entries, entries_sorted, get-entries, find}
 use Rattle.ts_model.specs.Catalogue.{Series, name_cmp}
-use Rattle.ts_rolling.specs.Keys.{read_window, window_key, read_control, control_key, most_windows, most_kept}
-use Rattle.ts_rolling.specs.Sets.{windows, controls, may_be_window}
+use Rattle.ts_rolling.specs.Sets.{read_window, window_key, read_control, control_key, most_windows, most_kept, windows, controls, may_be_window}
 use Rattle.ts_rolling.specs.SetLaws.{window_in}
 use Rattle.ts_rolling.proofs.KeyLemmas.{window_form, control_form, windows_cmp, controls_cmp}
 use Rattle.ts_rolling.proofs.NumberedLemmas.{tested, find-picked, good-picked, sorted-picked, numbers_rise}

@@ -1,5 +1,5 @@
 use Rattle.std.proofs.Common.{arith, [], ◌∷◌}
-use Rattle.ts_rolling.specs.Keys.{window_key, control_key}
+use Rattle.ts_rolling.specs.Sets.{window_key, control_key}
 use Rattle.ts_rolling.proofs.KeyLemmas.{numbered_same, never_both, never_own}
 use Rattle.ts_rolling.proofs.laws.sets_share_no_keys.Goals as goal
 

@@ -1,5 +1,5 @@
 use Rattle.std.proofs.Common.{◌≡◌, ℕ, ◌<◌, true, get_or}
-use Rattle.ts_rolling.specs.Plan.{is_old}
+use Rattle.ts_rolling.specs.Sets.{is_old}
 use Rattle.ts_rolling.proofs.plan.count_old.Given as goal
 
 abbrev pub invariant-loop-i : goal.invariant-loop-i

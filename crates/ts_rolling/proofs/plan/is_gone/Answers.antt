@@ -1,5 +1,5 @@
 use Rattle.std.proofs.Common.{◌≡◌, ◌==◌, ◌&&◌, false, not, length, sym, ap, ◌∙◌}
-use Rattle.ts_rolling.specs.Plan.{greatest, is_old}
+use Rattle.ts_rolling.specs.Sets.{greatest, is_old}
 use Rattle.ts_rolling.proofs.PlanLemmas.{gone_is}
 use Rattle.ts_rolling.proofs.plan.is_gone.Goals as goal
 

@@ -2,7 +2,7 @@ use Rattle.std.proofs.Common.{◌≡◌, not, cond, Ok, Err, sym, ap, ◌∙◌}
 use Rattle.std.specs.Prelude.{filter, nat_eq}
 use Rattle.std.specs.List.{list_any}
 use Rattle.ts_base.specs.declared.refusal.Refusal.TheVariants.{WindowGone}
-use Rattle.ts_rolling.specs.Plan.{a_plan, later, greatest, is_old, going, plan_for}
+use Rattle.ts_rolling.specs.Sets.{a_plan, later, greatest, is_old, going, plan_for}
 use Rattle.ts_rolling.proofs.plan.plan_for.Goals as goal
 
 pub returns-then-is_gone-clause-cause : goal.returns-then-is_gone-clause-cause

@@ -1,7 +1,7 @@
 use Rattle.std.proofs.Common.{◌≡◌, ℕ, ◌+◌, List, take, refl, ap, ◌∙◌, arith}
 use Rattle.std.proofs.lemmas.List.{take_all}
 use Rattle.ts_layout.specs.Meaning.{catalogue_of}
-use Rattle.ts_answer.specs.Rolling.{without_windows}
+use Rattle.ts_answer.specs.Elements.{without_windows}
 use Rattle.ts_rolling_edits.specs.Parts.{seen_on, IsWithout, Never}
 use Rattle.ts_rolling_edits.proofs.PartLemmas.{came_copied, came_then, came_as, seen_then, stopped_then, part_done, part_stopped}
 use Rattle.ts_rolling_edits.proofs.GrowthLemmas.{still_grows, grows_then}

@@ -1,7 +1,7 @@
 -- The windows so far are dropped.
 use Rattle.std.proofs.Common.{◌≡◌, take}
 use Rattle.ts_container.specs.KeptCharges.{AreCharges}
-use Rattle.ts_answer.specs.Rolling.{without_windows}
+use Rattle.ts_answer.specs.Elements.{without_windows}
 use Rattle.ts_rolling_edits.specs.Parts.{seen_on, Came, GrowsByPages}
 use Rattle.ts_rolling_edits.proofs.parts.drop_windows.Given as goal
 

@@ -5,7 +5,7 @@ use Rattle.ts_model.specs.declared.kind.Kind.TheVariants as kinds
 use Rattle.ts_model.specs.declared.def.Def.{Def}
 use Rattle.ts_model.specs.Definitions.{Definitions, limit, kind_of}
 use Rattle.ts_answer.specs.Decided.{FitsSlot}
-use Rattle.ts_answer.specs.Rolling.{with_window}
+use Rattle.ts_answer.specs.Elements.{with_window}
 use Rattle.ts_rolling_edits.specs.Parts.{seen_on}
 use Rattle.ts_rolling_edits.proofs.PartLemmas.{part_by, part_not, part_unkept, can_charge}
 use Rattle.ts_rolling_edits.proofs.RollingLemmas.{made_came, made_refused}

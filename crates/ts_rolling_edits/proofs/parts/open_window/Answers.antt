@@ -1,5 +1,5 @@
 use Rattle.std.proofs.Common.{◌≡◌, Bool, Ok, Err, refl, sym, subst}
-use Rattle.ts_answer.specs.Rolling.{with_window}
+use Rattle.ts_answer.specs.Elements.{with_window}
 use Rattle.ts_rolling_edits.specs.Parts.{seen_on, IsPart}
 use Rattle.ts_rolling_edits.proofs.PartLemmas.{part_done, came_as, came_copied}
 use Rattle.ts_rolling_edits.proofs.RollingLemmas.{not_made}

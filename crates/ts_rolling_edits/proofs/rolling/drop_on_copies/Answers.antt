@@ -1,5 +1,5 @@
 use Rattle.std.proofs.Common.{◌≡◌, ℕ, List, refl, subst}
-use Rattle.ts_answer.specs.Rolling.{without_windows}
+use Rattle.ts_answer.specs.Elements.{without_windows}
 use Rattle.ts_answer.specs.View.{view}
 use Rattle.ts_effects.proofs.CallerLemmas.{can_count}
 use Rattle.ts_rolling_edits.specs.Parts.{seen_on, Came, Never}

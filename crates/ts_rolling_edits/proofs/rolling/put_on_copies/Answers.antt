@@ -1,7 +1,7 @@
 use Rattle.std.proofs.Common.{◌≡◌, ℕ, List, refl, subst}
 use Rattle.ts_answer.specs.View.{view}
 use Rattle.ts_effects.proofs.CallerLemmas.{can_count}
-use Rattle.ts_answer.specs.Rolling.{without_windows}
+use Rattle.ts_answer.specs.Elements.{without_windows}
 use Rattle.ts_rolling_edits.specs.Parts.{seen_on, Came}
 use Rattle.ts_rolling_edits.proofs.PartLemmas.{came_copied, seen_then, stops_all}
 use Rattle.ts_rolling_edits.proofs.GrowthLemmas.{grown}

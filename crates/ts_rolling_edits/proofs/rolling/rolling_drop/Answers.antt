@@ -1,11 +1,10 @@
 use Rattle.std.proofs.Common.{◌≡◌, ℕ, Ok, Err, ◌++◌, refl, sym, ap, ◌∙◌, length, arith}
 use Rattle.ts_command.specs.declared.command.Command.TheVariants.{RollingDrop}
 use Rattle.ts_model.specs.declared.kind.Kind.TheVariants as kinds
-use Rattle.ts_model.specs.Kinds.{without}
-use Rattle.ts_model.specs.Catalogue.{Catalogue}
+use Rattle.ts_model.specs.Catalogue.{without, Catalogue}
 use Rattle.ts_answer.specs.Answer.{Tried, Answered, outcome, carried_out}
 use Rattle.ts_answer.specs.Reply.{count_line}
-use Rattle.ts_answer.specs.Rolling.{without_windows}
+use Rattle.ts_answer.specs.Elements.{without_windows}
 use Rattle.ts_answer.specs.View.{view}
 use Rattle.ts_answer.proofs.CallerLemmas.{stopped_first, tried_stopped, said_line}
 use Rattle.ts_rolling_edits.specs.Parts.{Never}

@@ -1,9 +1,9 @@
 use Rattle.std.proofs.Common.{ℕ, List, refl, sym, ap, ◌∙◌}
 use Rattle.ts_command.specs.declared.command.Command.TheVariants.{RollingPut, PutElemNoDups}
-use Rattle.ts_rolling.specs.Plan.{a_plan}
+use Rattle.ts_rolling.specs.Sets.{a_plan}
 use Rattle.ts_layout.specs.Meaning.{catalogue_of}
 use Rattle.ts_answer.specs.Answer.{outcome, carried_out, put_no_dups}
-use Rattle.ts_answer.specs.Rolling.{put_planned}
+use Rattle.ts_answer.specs.Elements.{put_planned}
 use Rattle.ts_answer.specs.View.{view}
 use Rattle.ts_answer.proofs.CallerLemmas.{stopped_first, tried_stopped}
 use Rattle.ts_rolling_edits.proofs.PartLemmas.{carried_as, carried_whole}

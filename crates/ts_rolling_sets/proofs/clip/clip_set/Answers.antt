@@ -2,7 +2,7 @@ use Rattle.std.proofs.Common.{◌≡◌, ℕ, List, Ok, Result, refl, sym, ap, s
 use Rattle.ts_base.specs.declared.refusal.Refusal.{Refusal}
 use Rattle.ts_base.specs.declared.fault.Trouble.TheVariants.{Refused}
 use Rattle.ts_command.specs.declared.command.Command.TheVariants.{RollingClip}
-use Rattle.ts_sheets.specs.Range.{within_range}
+use Rattle.ts_sheets.specs.Stamped.{within_range}
 use Rattle.ts_model.specs.declared.kind.Kind.TheVariants.{Series}
 use Rattle.ts_layout.specs.Meaning.{catalogue_of}
 use Rattle.ts_rolling.specs.Sets.{window_elements}

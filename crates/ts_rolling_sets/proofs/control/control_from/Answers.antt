@@ -2,7 +2,7 @@ use Rattle.std.proofs.Common.{◌≡◌, ℕ, None, List, sym, ap, rules, ◌∙
 use Rattle.std.specs.Option.{option_map}
 use Rattle.ts_offset.specs.declared.shape.Shape.TheVariants.{Regular, Irregular}
 use Rattle.ts_layout.specs.Meaning.{catalogue_of}
-use Rattle.ts_rolling.specs.Keys.{control_key}
+use Rattle.ts_rolling.specs.Sets.{control_key}
 use Rattle.ts_answer.specs.View.{view}
 use Rattle.ts_rolling_sets.specs.declared.live.KeptBy.{KeptBy}
 use Rattle.ts_rolling_sets.proofs.ControlLemmas.{control_missing, control_there, ungridded_none, ungridded, key_named, shelf_is, control_shelf}

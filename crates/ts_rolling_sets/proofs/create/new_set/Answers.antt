@@ -5,9 +5,9 @@ use Rattle.std.proofs.lemmas.Int.{to_z-of_z}
 use Rattle.ts_model.specs.declared.kind.Kind.TheVariants.{Series as AllSeries}
 use Rattle.ts_layout.specs.Meaning.{catalogue_of}
 use Rattle.ts_base.specs.declared.refusal.Refusal.TheVariants as refusals
-use Rattle.ts_rolling.specs.Keys.{control_key}
+use Rattle.ts_rolling.specs.Sets.{control_key}
 use Rattle.ts_answer.specs.Answer.{outcome, carried_out, create_regular}
-use Rattle.ts_answer.specs.Rolling.{roll_create}
+use Rattle.ts_answer.specs.Elements.{roll_create}
 use Rattle.ts_answer.specs.Decided.{DefinesAs}
 use Rattle.ts_answer.specs.Tried.{IsTried}
 use Rattle.ts_answer.proofs.CallerLemmas.{goes, stops, no_memory, passes, refuses}

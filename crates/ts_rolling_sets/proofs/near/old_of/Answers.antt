@@ -1,7 +1,7 @@
 use Rattle.std.proofs.Common.{◌≡◌, ℕ, ◌++◌, List, Option, take, filter, option_to_list, sym, ap, subst, ◌∙◌}
 use Rattle.std.proofs.lemmas.List.Elements.{filter-append}
 use Rattle.std.specs.List.{filter_map}
-use Rattle.ts_rolling.specs.Plan.{is_old}
+use Rattle.ts_rolling.specs.Sets.{is_old}
 use Rattle.ts_rolling_sets.specs.InMemory.{window_at}
 use Rattle.ts_rolling_sets.proofs.OrderLemmas.{picked_next}
 use Rattle.ts_rolling_sets.proofs.PickedLemmas.{picked_here}

@@ -1,7 +1,7 @@
 -- The windows so far, which are all old.
 use Rattle.std.proofs.Common.{◌≡◌, take, filter}
 use Rattle.std.specs.List.{filter_map}
-use Rattle.ts_rolling.specs.Plan.{is_old}
+use Rattle.ts_rolling.specs.Sets.{is_old}
 use Rattle.ts_rolling_sets.specs.InMemory.{window_at}
 use Rattle.ts_rolling_sets.proofs.near.old_of.Given as goal
 

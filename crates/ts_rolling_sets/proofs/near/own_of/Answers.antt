@@ -1,5 +1,5 @@
 use Rattle.std.proofs.Common.{◌≡◌, ℕ, List, Some, ap, sym, ◌∙◌}
-use Rattle.ts_rolling.specs.Keys.{window_key}
+use Rattle.ts_rolling.specs.Sets.{window_key}
 use Rattle.ts_rolling_sets.specs.Near.{key_if}
 use Rattle.ts_rolling_sets.specs.InMemory.{live_in}
 use Rattle.ts_rolling_sets.proofs.NearLemmas.{any_newest, any_later}

@@ -4,7 +4,7 @@ use Rattle.std.specs.List.{list_any}
 use Rattle.std.specs.List.Sorted.{IsStrictlyIncreasing}
 use Rattle.ts_model.specs.Definitions.{Definitions}
 use Rattle.ts_base.specs.declared.refusal.Refusal.{Refusal}
-use Rattle.ts_rolling.specs.Plan.{Planned, a_plan, is_old, later}
+use Rattle.ts_rolling.specs.Sets.{Planned, a_plan, is_old, later}
 use Rattle.ts_rolling_sets.specs.InMemory.{live_in}
 use Rattle.ts_rolling_sets.specs.Near.{newest, key_if}
 use Rattle.ts_rolling_sets.proofs.SearchLemmas.{all_windows}

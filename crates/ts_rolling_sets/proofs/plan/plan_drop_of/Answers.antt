@@ -4,7 +4,7 @@ use Rattle.ts_model.specs.declared.kind.Kind.TheVariants.{Series}
 use Rattle.ts_layout.specs.Meaning.{Layout, catalogue_of}
 use Rattle.ts_answer.specs.Slots.{Stands}
 use Rattle.ts_rolling.specs.Sets.{live}
-use Rattle.ts_answer.specs.Rolling.{roll_drop}
+use Rattle.ts_answer.specs.Elements.{roll_drop}
 use Rattle.ts_answer.specs.Tried.{IsRefusedAs}
 use Rattle.ts_answer.specs.View.{View, view, IsViewOf}
 use Rattle.ts_rolling_sets.proofs.HomeLemmas.{err_says, home_found, live_seen, container_seen, few_live, as_many}

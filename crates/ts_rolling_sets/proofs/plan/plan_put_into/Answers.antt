@@ -4,10 +4,9 @@ use Rattle.ts_row.specs.declared.kind.Column.{Column}
 use Rattle.ts_row.specs.declared.value.Literal.{Literal}
 use Rattle.ts_model.specs.declared.kind.Kind.TheVariants.{Series}
 use Rattle.ts_layout.specs.Meaning.{Layout, catalogue_of}
-use Rattle.ts_rolling.specs.Plan.{a_plan, planned}
-use Rattle.ts_rolling.specs.Sets.{live}
+use Rattle.ts_rolling.specs.Sets.{a_plan, planned, live}
 use Rattle.ts_answer.specs.Answer.{a_row}
-use Rattle.ts_answer.specs.Rolling.{roll_put, put_planned}
+use Rattle.ts_answer.specs.Elements.{roll_put, put_planned}
 use Rattle.ts_answer.specs.Slots.{Stands}
 use Rattle.ts_answer.specs.Tried.{IsRefusedAs}
 use Rattle.ts_answer.specs.View.{View, view, IsViewOf}

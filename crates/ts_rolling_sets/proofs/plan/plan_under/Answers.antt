@@ -4,8 +4,7 @@ use Rattle.ts_offset.specs.Grid.{GridPlan}
 use Rattle.ts_model.specs.declared.kind.Kind.TheVariants as kinds
 use Rattle.ts_model.specs.Catalogue.{Series}
 use Rattle.ts_layout.specs.Meaning.{Layout, catalogue_of}
-use Rattle.ts_rolling.specs.Plan.{planned}
-use Rattle.ts_rolling.specs.Sets.{live}
+use Rattle.ts_rolling.specs.Sets.{planned, live}
 use Rattle.ts_answer.specs.Slots.{Stands}
 use Rattle.ts_answer.specs.Tried.{IsRefusedAs}
 use Rattle.ts_answer.specs.View.{View, view, IsViewOf}

@@ -1,7 +1,6 @@
 use Rattle.std.proofs.Common.{◌≡◌, [], ◌++◌, drop}
 use Rattle.std.specs.Prelude.{reverse}
-use Rattle.ts_running.specs.Parts.{after_steps}
-use Rattle.ts_running.specs.Binding.{part_scales}
+use Rattle.ts_running.specs.Binding.{after_steps, part_scales}
 use Rattle.ts_running.specs.Instructions.{instructions_of}
 use Rattle.ts_running.proofs.scale.scaled_exprs.Given as goal
 

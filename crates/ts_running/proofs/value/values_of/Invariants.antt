@@ -1,5 +1,5 @@
 use Rattle.std.proofs.Common.{◌≡◌, map, take}
-use Rattle.ts_running.specs.Operands.{value_if_any}
+use Rattle.ts_running.specs.Binding.{value_if_any}
 use Rattle.ts_running.proofs.value.values_of.Given as goal
 
 abbrev pub invariant-loop-number : goal.invariant-loop-number

@@ -2,7 +2,7 @@
 use Rattle.std.proofs.Common.{◌∙◌, ◌++◌, ap, List, Option}
 use Rattle.std.specs.Prelude.{ℤ}
 use Rattle.std.proofs.lemmas.Result.{on_ok_weaker}
-use Rattle.ts_running.specs.Operands.{numbers_of}
+use Rattle.ts_running.specs.Binding.{numbers_of}
 use Rattle.ts_running_rows.proofs.NumberLemmas.{seen_values}
 use Rattle.ts_running_rows.proofs.number.numbers_in.Goals as goal
 

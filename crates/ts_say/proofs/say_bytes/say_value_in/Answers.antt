@@ -1,8 +1,7 @@
 use Rattle.std.proofs.Common.{◌∷◌, ◌++◌, [], ap, ◌∙◌, arith}
 use Rattle.std.proofs.lemmas.Result.{on_ok_weaker}
 use Rattle.ts_row.specs.declared.value.Value.{Value}
-use Rattle.ts_row.specs.RowType.{scale_of}
-use Rattle.ts_row.specs.Printed.{value_text}
+use Rattle.ts_row.specs.Row.{scale_of, value_text}
 use Rattle.ts_say.proofs.BytesLemmas.{null_there}
 use Rattle.ts_say.proofs.say_bytes.say_value_in.Goals as goal
 

@@ -2,7 +2,7 @@
 use Rattle.std.proofs.Common.{◌≡◌, ℕ, List, [], ◌∷◌, ◌++◌, slice_index_or, sym, ap, ◌∙◌, append_assoc}
 use Rattle.std.specs.Fmt.{decimal}
 use Rattle.std.proofs.lemmas.Result.{on_ok_weaker}
-use Rattle.ts_base.specs.StampText.{digit, two_digits}
+use Rattle.ts_base.specs.Moment.{digit, two_digits}
 use Rattle.ts_say.proofs.DigitsLemmas.{one_digit, both_digits}
 use Rattle.ts_say.proofs.say_numbers.say_two_digits.Goals as goal
 

@@ -3,7 +3,7 @@ use Rattle.std.proofs.Common.{List, ◌++◌, length, ap, ◌∙◌}
 use Rattle.std.proofs.lemmas.Result.{on_ok_weaker}
 use Rattle.std.specs.Option.{option_copied}
 use Rattle.ts_row.specs.declared.kind.Column.{Column}
-use Rattle.ts_row.specs.Printed.{values_text}
+use Rattle.ts_row.specs.Row.{values_text}
 use Rattle.ts_combine.specs.Combine.{values_or_nulls}
 use Rattle.ts_say.proofs.RowsLemmas.{some_columns, joined_said}
 use Rattle.ts_say.proofs.say_rows.say_joined.Goals as goal

@@ -2,8 +2,7 @@ use Rattle.std.proofs.Common.{◌≡◌, ℕ, ◌+◌, ◌<◌, List, [], ◌++�
 use Rattle.std.proofs.lemmas.List.{length-take-le}
 use Rattle.ts_items.specs.Items.{place_from}
 use Rattle.ts_items.proofs.ItemLaws.{place_from-append}
-use Rattle.ts_script_runs.specs.Script.{OpenedRan}
-use Rattle.ts_script_runs.specs.Run.{script, by_engine}
+use Rattle.ts_script_runs.specs.Script.{OpenedRan, script, by_engine}
 use Rattle.ts_carriers.proofs.CallerLemmas.{rose_on}
 use Rattle.ts_script_runs.proofs.ItemLemmas.{steady}
 use Rattle.ts_carriers.proofs.CallerLemmas.{ran_none}

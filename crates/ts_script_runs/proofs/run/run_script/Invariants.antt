@@ -1,8 +1,8 @@
 use Rattle.std.proofs.Common.{◌≡◌, ◌+◌, ◌-◌, ◌≤◌, ◌++◌, ℕ, IsTrue, List, [], length, Some, Ok}
 use Rattle.ts_items.specs.Items.{place_from}
-use Rattle.ts_command.specs.Script.{requests}
+use Rattle.ts_command.specs.Grammar.{requests}
 use Rattle.ts_opening.specs.Engine.{IsReady}
-use Rattle.ts_script_runs.specs.Run.{script, by_engine}
+use Rattle.ts_script_runs.specs.Script.{script, by_engine}
 use Rattle.ts_opening.proofs.CallerLemmas.{IsOnce}
 use Rattle.ts_carriers.specs.Run.{Ran}
 use Rattle.ts_script_runs.proofs.run.run_script.Given as goal

@@ -1,5 +1,5 @@
 use Rattle.std.proofs.Common.{◌+◌, ◌-◌, arith}
-use Rattle.ts_cells.specs.Cell.{page_room}
+use Rattle.ts_cells.specs.IrregularPage.{page_room}
 use Rattle.ts_series.proofs.ClearLemmas.{parts_of, room_each, room_both}
 use Rattle.ts_series.proofs.WrittenLemmas.{joined_at, many_slice, none_removed, cleared}
 use Rattle.ts_series.proofs.clip.clear.Goals as goal

@@ -1,5 +1,5 @@
 use Rattle.std.proofs.Common.{arith, length-append}
-use Rattle.ts_sheets.specs.Placing.{earlier}
+use Rattle.ts_sheets.specs.Stamped.{earlier}
 use Rattle.ts_chain.proofs.JoinLemmas.{are_behind}
 use Rattle.ts_series.specs.Ends.{later}
 use Rattle.ts_series.proofs.RangeLemmas.{parts_fit}

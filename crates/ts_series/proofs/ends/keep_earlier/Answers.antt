@@ -3,7 +3,7 @@ use Rattle.std.proofs.lemmas.List.{length-take-le}
 use Rattle.ts_row.specs.declared.kind.Column.{Column}
 use Rattle.ts_cells.specs.IrregularPage.{irregular_page}
 use Rattle.ts_irregular.proofs.HeadLemmas.{part_behind, length-page}
-use Rattle.ts_sheets.specs.Placing.{earlier}
+use Rattle.ts_sheets.specs.Stamped.{earlier}
 use Rattle.ts_series.proofs.ends.keep_earlier.Goals as goal
 
 pub returns-clause-kept : goal.returns-clause-kept

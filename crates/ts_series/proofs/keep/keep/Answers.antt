@@ -2,8 +2,8 @@ use Rattle.std.proofs.Common.{◌+◌, ◌≤◌, ◌++◌, List, ap, subst, sym
 use Rattle.ts_space.specs.declared.place.Place.{Place}
 use Rattle.ts_space.specs.Place.{count_of}
 use Rattle.ts_space.specs.Moved.{list_of}
-use Rattle.ts_cells.specs.Cell.{page_room}
-use Rattle.ts_sheets.specs.Chain.{all_in}
+use Rattle.ts_cells.specs.IrregularPage.{page_room}
+use Rattle.ts_sheets.specs.Stamped.{all_in}
 use Rattle.ts_sheets.specs.Places.{AreChained}
 use Rattle.ts_series.proofs.LayLemmas.{order_front, order_back}
 use Rattle.ts_series.proofs.KeepLemmas.{gone, before_slice, behind_slice, slices_rising, kept_slices, begin_slices, two_slices, part_since, kept_since, chained_since}

@@ -3,9 +3,8 @@ use Rattle.std.specs.Int.{w64}
 use Rattle.std.specs.Prelude.{unsigned_abs}
 use Rattle.std.proofs.lemmas.Int.{to_z-of_z}
 use Rattle.ts_base.specs.declared.fault.Trouble.TheVariants.{Refused, Memory}
-use Rattle.ts_expr.specs.Grammar.{item}
-use Rattle.ts_expr.specs.Binding.{bound}
-use Rattle.ts_running.specs.Window.{Window}
+use Rattle.ts_expr.specs.Aggregates.{item, bound}
+use Rattle.ts_running.specs.Rows.{Window}
 use Rattle.ts_layout.specs.Meaning.{catalogue_of}
 use Rattle.ts_answer.specs.Answer.{running_values}
 use Rattle.ts_answer.specs.Tried.{IsRefusedAs}

@@ -1,6 +1,5 @@
 use Rattle.std.proofs.Common.{◌≡◌, ◌++◌, ℕ, List, refl, sym, ◌∙◌, subst, arith}
-use Rattle.ts_journal.specs.Entry.{over}
-use Rattle.ts_journal.specs.Journal.{own_page}
+use Rattle.ts_journal.specs.Journal.{over, own_page}
 use Rattle.ts_store.specs.OpenBatch.{committed_pages}
 use Rattle.ts_store.proofs.CallerLemmas.{reads_none, reads_then}
 use Rattle.ts_views.specs.View.{HasImage, OfEachOpen}

@@ -1,5 +1,5 @@
 use Rattle.std.specs.Prelude.{◌≡◌, ◌<◌, ◌++◌, ℕ, slice_index_or}
-use Rattle.ts_journal.specs.Entry.{Entry}
+use Rattle.ts_journal.specs.Journal.{Entry}
 use Rattle.ts_journal.specs.Moment.{OnlyReads}
 use Rattle.ts_store.specs.OpenBatch.{committed_pages}
 use Rattle.ts_views.specs.View.{HasImage, OfEachOpen}

@@ -2,9 +2,8 @@ use Rattle.std.proofs.Common.{◌≡◌, ◌<◌, ◌≤◌, ◌+◌, ◌∷◌,
 use Rattle.std.proofs.lemmas.List.{take_all, take_more, length-take}
 use Rattle.ts_command.specs.declared.command.Command.{Command}
 use Rattle.ts_command.specs.declared.boundary.Boundary.{Boundary}
-use Rattle.ts_command.specs.Boundary.{boundary_of}
+use Rattle.ts_command.specs.Boundary.{boundary_of, is_writing}
 use Rattle.ts_command.specs.Form.{HasForm}
-use Rattle.ts_command.specs.Writing.{is_writing}
 use Rattle.ts_session_engine.specs.Replayed.{Replays}
 use Rattle.ts_session_engine.proofs.AttemptLemmas.{few_open, open_is}
 use Rattle.ts_session_engine.proofs.ReplayLemmas.{refused_more, replays_by, replays_none, replays_then, stopped_more}

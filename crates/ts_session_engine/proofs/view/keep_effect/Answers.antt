@@ -1,5 +1,5 @@
 use Rattle.std.proofs.Common.{◌^◌, List, refl, sym, ◌∙◌, ap, subst}
-use Rattle.ts_journal.specs.Entry.{Entry, over, put_all}
+use Rattle.ts_journal.specs.Journal.{Entry, over, put_all}
 use Rattle.ts_journal.proofs.OverLemmas.{over_all}
 use Rattle.ts_model.specs.Definitions.{Definitions}
 use Rattle.ts_answer.specs.CarriedOut.{CanApply, definitions_after, lists_after}

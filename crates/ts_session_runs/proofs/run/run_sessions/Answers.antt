@@ -1,7 +1,7 @@
 use Rattle.std.proofs.Common.{◌≡◌, ℕ, ◌≤◌, List, length, sym, ◌∙◌, ap, subst, arith}
 use Rattle.std.specs.List.{sum_by}
 use Rattle.ts_items.specs.Items.{Item}
-use Rattle.ts_command.specs.Script.{Request}
+use Rattle.ts_command.specs.Grammar.{Request}
 use Rattle.ts_multi.specs.Log.{Log}
 use Rattle.ts_multi.specs.Schedule.{order, total}
 use Rattle.ts_sessions.specs.Steps.{Turn}

@@ -1,6 +1,6 @@
 use Rattle.std.proofs.Common.{◌≡◌, ℕ, ◌+◌, ◌*◌, List, length, replicate, inr, refl, ◌∙◌, ap}
 use Rattle.ts_disk.specs.Device.{overwritten}
-use Rattle.ts_page.specs.Volume.{first_element_page}
+use Rattle.ts_page.specs.Pages.{first_element_page}
 use Rattle.ts_model.specs.Catalogue.{newest_format}
 use Rattle.ts_shell.proofs.NewLemmas.{new_means}
 use Rattle.ts_shell.proofs.MakingLemmas.{header_length, written_new, zeros_held, written, written_synced, empty_from}

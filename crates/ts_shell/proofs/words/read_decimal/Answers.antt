@@ -1,7 +1,7 @@
 -- At most ten digits stay below 64 bits.
 use Rattle.std.proofs.Common.{◌≡◌, ◌^◌, ◌<◌, length, ◌∙◌, sym, ap, Some, arith, true}
 use Rattle.std.proofs.lemmas.Bool.{le-leb}
-use Rattle.ts_base.specs.StampText.{number_of, all_digits}
+use Rattle.ts_base.specs.Moment.{number_of, all_digits}
 use Rattle.ts_text.proofs.CallerLemmas.{digits_kept, ten_room}
 use Rattle.ts_shell.proofs.words.read_decimal.Goals as goal
 

@@ -1,8 +1,8 @@
 use Rattle.std.proofs.Common.{ℕ, ◌≡◌, Some, List, take, drop, ap, ◌∙◌}
-use Rattle.ts_cells.specs.Cell.{stamp_bytes}
+use Rattle.ts_cells.specs.IrregularPage.{stamp_bytes}
 use Rattle.ts_layout.specs.Slot.{name_bytes, calendar_bytes}
 use Rattle.ts_model.specs.Definitions.{CalendarDef}
-use Rattle.ts_layout.specs.Limits.{IsCalendarDef}
+use Rattle.ts_layout.specs.Meaning.{IsCalendarDef}
 use Rattle.ts_layout.proofs.CallerLemmas.{length-name, calendar_name, calendar_start, calendar_patt_start, behind_starts}
 use Rattle.ts_slots.specs.Written.{form_of}
 use Rattle.ts_slots.proofs.ParseLemmas.{one, none_some}

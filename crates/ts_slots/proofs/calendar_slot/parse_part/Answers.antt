@@ -1,6 +1,6 @@
 use Rattle.std.proofs.Common.{◌≡◌, ℕ, ◌-◌, ◌++◌, Option, Some, None, List, length, take, drop, get_or, replicate, length-drop, sym, ap, ◌∙◌, arith}
 use Rattle.std.proofs.lemmas.List.{take_all}
-use Rattle.ts_pattern.specs.Plan.{Plan}
+use Rattle.ts_pattern.specs.Patterns.{Plan}
 use Rattle.ts_layout.specs.Slot.{padded, part_bytes, plan_bytes}
 use Rattle.ts_layout.proofs.CallerLemmas.{part_named, part_slot, part_own, part_plan}
 use Rattle.ts_slots.specs.declared.calendar_slot.Part.{Part}

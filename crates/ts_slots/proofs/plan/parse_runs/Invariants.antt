@@ -1,7 +1,7 @@
 use Rattle.std.proofs.Common.{◌≡◌, ◌^◌, ◌<◌, ◌++◌, ℕ, List, length, take}
 use Rattle.std.specs.List.{flat_map}
 use Rattle.ts_pattern.specs.declared.run.Run.{Run}
-use Rattle.ts_pattern.specs.Runs.{total}
+use Rattle.ts_pattern.specs.Patterns.{total}
 use Rattle.ts_layout.specs.Slot.{run_bytes}
 use Rattle.ts_slots.proofs.plan.parse_runs.Given as goal
 

@@ -1,9 +1,9 @@
 use Rattle.std.proofs.Common.{ℕ, ◌≡◌, ◌-◌, ◌++◌, Some, None, List, length, take, drop, replicate, get_or, sym, ap, subst, ◌∙◌, arith}
-use Rattle.ts_row.specs.RowType.{bad_column}
+use Rattle.ts_row.specs.Row.{bad_column}
 use Rattle.ts_row.specs.declared.kind.Column.{Column}
 use Rattle.ts_model.specs.declared.def.Def.TheVariants as defs
 use Rattle.ts_layout.specs.Slot.{def_bytes, columns_bytes}
-use Rattle.ts_layout.specs.Limits.{IsOfFormat}
+use Rattle.ts_layout.specs.Meaning.{IsOfFormat}
 use Rattle.ts_layout.proofs.CallerLemmas.{row_type_name, row_type_stamp, row_type_count, length-name, row_types_only, behind_stamp}
 use Rattle.ts_slots.proofs.ParseLemmas.{one, none_some, both_ways, few_columns, good_columns}
 use Rattle.ts_slots.proofs.row_type_slot.parse_row_type.Goals as goal

@@ -1,8 +1,8 @@
 use Rattle.std.proofs.Common.{ℕ, ◌≡◌, ◌≤◌, ℤ, Option, Some, None, IfSome, List, length, take, drop, get_or, refl, sym, ap, ◌∙◌, arith}
 use Rattle.ts_base.specs.Moment.{IsStamp}
-use Rattle.ts_cells.specs.Cell.{stamp_bytes}
+use Rattle.ts_cells.specs.IrregularPage.{stamp_bytes}
 use Rattle.ts_layout.specs.Slot.{series_bytes}
-use Rattle.ts_layout.specs.Limits.{IsRegularPart}
+use Rattle.ts_layout.specs.Meaning.{IsRegularPart}
 use Rattle.ts_layout.proofs.CallerLemmas.{series_first, series_calendar, series_origin}
 use Rattle.ts_slots.proofs.ParseLemmas.{one, none_some}
 use Rattle.ts_slots.proofs.series_slot.parse_regular.Goals as goal

@@ -1,5 +1,5 @@
 use Rattle.std.proofs.Common.{◌≡◌, [], sym, ap, ◌∙◌, length}
-use Rattle.ts_journal.specs.Entry.{Entries, put_all}
+use Rattle.ts_journal.specs.Journal.{Entries, put_all}
 use Rattle.ts_store.proofs.JoinLemmas.{joined_alone}
 use Rattle.ts_store.proofs.CommitLemmas.{no_entries}
 use Rattle.ts_store.proofs.store.join.Goals as goal

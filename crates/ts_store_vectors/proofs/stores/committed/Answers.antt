@@ -1,5 +1,5 @@
 use Rattle.std.proofs.Common.{length, ap, arith}
-use Rattle.ts_journal.specs.Entry.{entries_bytes}
+use Rattle.ts_journal.specs.Journal.{entries_bytes}
 use Rattle.ts_store.specs.OpenBatch.{State, to_commit}
 use Rattle.ts_store.proofs.CallerLemmas.{over_prepared, idle_closed, closed_committed, commit_bytes}
 use Rattle.ts_store_vectors.proofs.stores.committed.Goals as goal

@@ -2,7 +2,7 @@ use Rattle.std.proofs.Common.{◌≡◌, ℤ, None, w64, unsigned_abs, ap, sym, 
 use Rattle.std.proofs.lemmas.Int.{to_z-of_z}
 use Rattle.ts_base.specs.declared.refusal.Refusal.TheVariants.{PastEnd}
 use Rattle.ts_base.specs.declared.fault.Trouble.TheVariants.{Refused}
-use Rattle.ts_offset.specs.Counting.{cal_stamp}
+use Rattle.ts_offset.specs.Grid.{cal_stamp}
 use Rattle.ts_answer.specs.Answer.{outcome, carried_out, find_start}
 use Rattle.ts_answer.specs.Reply.{stamp_line}
 use Rattle.ts_answer.proofs.CallerLemmas.{defined_by, goes, stops, stamp_there, stamp_past}

@@ -1,5 +1,5 @@
 use Rattle.std.proofs.Common.{◌≡◌, ◌≤◌, length}
-use Rattle.ts_text.specs.Blanks.{unblanked}
+use Rattle.ts_text.specs.Phrase.{unblanked}
 use Rattle.ts_text.proofs.blanks.skip_blanks.Given as goal
 
 abbrev pub invariant-loop-rest : goal.invariant-loop-rest

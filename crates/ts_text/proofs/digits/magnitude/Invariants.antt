@@ -1,5 +1,5 @@
 use Rattle.std.proofs.Common.{◌≡◌, ◌^◌, ◌<◌, take}
-use Rattle.ts_text.specs.Digits.{magnitude_of, digit_count}
+use Rattle.ts_text.specs.Phrase.{magnitude_of, digit_count}
 use Rattle.ts_text.proofs.digits.magnitude.Given as goal
 
 abbrev pub invariant-loop-byte : goal.invariant-loop-byte

@@ -1,5 +1,5 @@
 use Rattle.std.proofs.Common.{◌∙◌, ap, arith}
-use Rattle.ts_base.specs.StampText.{number_of}
+use Rattle.ts_base.specs.Moment.{number_of}
 use Rattle.ts_text.proofs.DigitLemmas.{nine_room, digits-le, digits_kept}
 use Rattle.ts_text.proofs.digits.number.Goals as goal
 

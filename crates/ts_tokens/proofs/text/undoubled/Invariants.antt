@@ -1,5 +1,5 @@
 use Rattle.std.proofs.Common.{◌≡◌, ◌++◌, length}
-use Rattle.ts_tokens.specs.Text.{undoubled}
+use Rattle.ts_tokens.specs.Tokens.{undoubled}
 use Rattle.ts_tokens.proofs.text.undoubled.Given as goal
 
 abbrev pub invariant-loop-rest : goal.invariant-loop-rest

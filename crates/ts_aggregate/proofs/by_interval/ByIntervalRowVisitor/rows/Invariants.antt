@@ -1,6 +1,6 @@
 -- The cells before those that are left are taken by their groups.
 use Rattle.std.proofs.Common.{◌≡◌, ◌+◌, ◌*◌, ◌≤◌, Option, List, length}
-use Rattle.ts_row.specs.Element.{Element}
+use Rattle.ts_row.specs.Row.{Element}
 use Rattle.ts_entry.specs.Rows.{AreCellsOf}
 use Rattle.ts_aggregate.specs.Groups.{grouping, IsAhead}
 use Rattle.ts_aggregate.proofs.TurnLemmas.{Turn}

@@ -1,6 +1,6 @@
 use Rattle.std.proofs.Common.{◌≡◌, ◌+◌, ◌*◌, ◌<◌, ℕ, length, sym, ap, ◌∙◌, arith}
 use Rattle.std.proofs.lemmas.Bool.Decides.{nat_tests}
-use Rattle.ts_row.specs.RowType.{width_of}
+use Rattle.ts_row.specs.Row.{width_of}
 use Rattle.ts_aggregate.proofs.FoldingLemmas.{none_there, one_there, row_cells_of}
 use Rattle.ts_aggregate.proofs.folding.Folding.take.Goals as goal
 

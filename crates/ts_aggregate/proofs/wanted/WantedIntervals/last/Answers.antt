@@ -1,8 +1,7 @@
 use Rattle.std.proofs.Common.{◌≡◌, ◌∙◌, sym, ap, subst, arith, true, false, Option, Some, ℤ, pos, ◌+ℤ◌, ◌<ℤ◌, to_z, of_z, w64}
 use Rattle.std.proofs.lemmas.Int.{ints}
 use Rattle.ts_base.specs.Moment.{IsStamp}
-use Rattle.ts_calendar.specs.Plan.{CalendarPlan}
-use Rattle.ts_calendar.specs.Intervals.{is_on, start_at, IsBefore}
+use Rattle.ts_calendar.specs.Calendars.{CalendarPlan, is_on, start_at, IsBefore}
 use Rattle.ts_offset.specs.Grid.{held_start}
 use Rattle.ts_aggregate.specs.Groups.{WantedPlan}
 use Rattle.ts_aggregate.proofs.SpanLemmas.{last_on, last_off}

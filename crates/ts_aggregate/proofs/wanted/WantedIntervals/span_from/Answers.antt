@@ -1,8 +1,7 @@
 use Rattle.std.proofs.Common.{◌≡◌, ◌∙◌, sym, ap, subst, arith, true, false, Option, Some, None, ℤ, pos, ◌+ℤ◌, to_z, of_z, w64}
 use Rattle.std.proofs.lemmas.Int.{ints}
-use Rattle.ts_calendar.specs.Plan.{CalendarPlan}
-use Rattle.ts_calendar.specs.Intervals.{is_on, start_at}
-use Rattle.ts_offset.specs.Counting.{cal_stamp}
+use Rattle.ts_calendar.specs.Calendars.{CalendarPlan, is_on, start_at}
+use Rattle.ts_offset.specs.Grid.{cal_stamp}
 use Rattle.ts_aggregate.specs.Groups.{WantedPlan, asked_start, IsSpan}
 use Rattle.ts_aggregate.proofs.SpanLemmas.{span_on, span_off}
 use Rattle.ts_aggregate.proofs.wanted.WantedIntervals.span_from.Goals as goal

@@ -1,8 +1,7 @@
 use Rattle.std.proofs.Common.{Some, ◌≡◌, pos, arith, to_z, of_z, w64, unsigned_abs, ◌∙◌, sym, ap}
 use Rattle.std.specs.Int.{int_div_euclid, int_rem_euclid}
 use Rattle.jiff_core.proofs.SignedLemmas.{signed_casts}
-use Rattle.ts_base.specs.Moment.{civil_of, day_of, clock_of}
-use Rattle.ts_base.specs.StampText.{stamp_text, text_of, read_stamp}
+use Rattle.ts_base.specs.Moment.{civil_of, day_of, clock_of, stamp_text, text_of, read_stamp}
 use Rattle.ts_base.proofs.CivilLemmas.{civil}
 use Rattle.ts_base.proofs.RoundTrip.{read_stamp-text, units_back}
 use Rattle.ts_base.proofs.stamp.Stamp.write_into.Goals as goal

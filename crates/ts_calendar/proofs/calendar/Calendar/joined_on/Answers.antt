@@ -2,10 +2,8 @@ use Rattle.std.proofs.Common.{◌≡◌, ◌∙◌, ◌-ℤ◌, sym, ap, arith, 
 use Rattle.std.specs.Int.{int_max}
 use Rattle.jiff_core.proofs.SignedLemmas.{signed_casts}
 use Rattle.ts_base.specs.Answer.{Answers}
-use Rattle.ts_pattern.specs.Algebra.{joined_plan}
-use Rattle.ts_calendar.specs.Plan.{CalendarPlan}
-use Rattle.ts_calendar.specs.Intervals.{IsEarly, start_in}
-use Rattle.ts_calendar.specs.Calendar.{first_step, with_pattern, joined_calendar}
+use Rattle.ts_pattern.specs.Patterns.{joined_plan}
+use Rattle.ts_calendar.specs.Calendars.{CalendarPlan, IsEarly, start_in, first_step, with_pattern, joined_calendar}
 use Rattle.ts_calendar.proofs.HeldLemmas.{start-is}
 use Rattle.ts_calendar.proofs.LawLemmas.{first-is}
 use Rattle.ts_calendar.proofs.JoinedLemmas.{grid-parts, joined-reaches, with-on}

@@ -1,5 +1,5 @@
 use Rattle.std.proofs.Common.{◌∙◌, sym, ap, rules, FitsSigned, to_z-of_z, w64}
-use Rattle.ts_calendar.specs.Intervals.{is_on}
+use Rattle.ts_calendar.specs.Calendars.{is_on}
 use Rattle.ts_calendar.proofs.calendar.Calendar.on.Goals as goal
 
 pub returns-in-Some : goal.returns-in-Some

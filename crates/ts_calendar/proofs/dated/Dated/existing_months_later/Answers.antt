@@ -1,6 +1,6 @@
 use Rattle.std.proofs.Common.{◌≡◌, ◌∙◌, ◌-ℤ◌, ◌+ℤ◌, ◌*ℤ◌, sym, ap, arith, to_z, of_z, w64}
 use Rattle.jiff_core.proofs.SignedLemmas.{signed_casts}
-use Rattle.ts_base.specs.Months.{months_after}
+use Rattle.ts_base.specs.Moment.{months_after}
 use Rattle.ts_calendar.specs.Dated.{IsInMonth}
 use Rattle.ts_calendar.proofs.LineLemmas.{month_at}
 use Rattle.ts_calendar.proofs.DatedLemmas.{month-exists, product}

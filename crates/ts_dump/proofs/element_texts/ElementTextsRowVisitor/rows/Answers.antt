@@ -1,7 +1,7 @@
 use Rattle.std.proofs.Common.{◌≡◌, ◌+◌, ◌*◌, ◌/◌, ◌<◌, ◌++◌, ℕ, List, length, take, drop, refl, sym, ap, subst, ◌∙◌, arith}
 use Rattle.std.proofs.lemmas.Bool.Decides.{nat_tests}
 use Rattle.ts_row.specs.declared.kind.Column.{Column}
-use Rattle.ts_row.specs.RowType.{width_of}
+use Rattle.ts_row.specs.Row.{width_of}
 use Rattle.ts_entry.specs.Rows.{elements_in}
 use Rattle.ts_aggregate.proofs.FoldingLemmas.{one_there, row_cells_of}
 use Rattle.ts_aggregate.proofs.TurnLemmas.{few_cells, less_cells, none_left}

@@ -1,6 +1,6 @@
 -- The cells before those that are left were taken.
 use Rattle.std.proofs.Common.{◌≡◌, ◌+◌, ◌*◌, ◌≤◌, Option, List, length}
-use Rattle.ts_row.specs.Element.{Element}
+use Rattle.ts_row.specs.Row.{Element}
 use Rattle.ts_entry.specs.Rows.{AreCellsOf}
 use Rattle.ts_dump.proofs.CellLemmas.{Turn}
 use Rattle.ts_dump.proofs.element_texts.ElementTextsRowVisitor.rows.Given as goal

@@ -1,5 +1,5 @@
 use Rattle.std.proofs.Common.{Err, length, ap, ◌∙◌, arith}
-use Rattle.ts_journal.specs.Entry.{entries_bytes}
+use Rattle.ts_journal.specs.Journal.{entries_bytes}
 use Rattle.ts_store.specs.OpenBatch.{to_commit}
 use Rattle.ts_store.proofs.CallerLemmas.{over_prepared}
 use Rattle.ts_engine.specs.Engine.{Kept}

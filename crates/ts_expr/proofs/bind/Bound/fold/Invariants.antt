@@ -1,5 +1,5 @@
 use Rattle.std.proofs.Common.{◌≡◌, take}
-use Rattle.ts_expr.specs.Fold.{rows_of}
+use Rattle.ts_expr.specs.Aggregates.{rows_of}
 use Rattle.ts_expr.specs.Running.{after}
 use Rattle.ts_expr.proofs.bind.Bound.fold.Given as goal
 

@@ -1,5 +1,5 @@
 use Rattle.std.proofs.Common.{◌≤◌, All, List, ℕ, sym, subst, ◌∙◌}
-use Rattle.ts_expr.specs.Binding.{most_scale}
+use Rattle.ts_expr.specs.Aggregates.{most_scale}
 use Rattle.std.proofs.lemmas.List.Elements.{All-map}
 use Rattle.ts_expr.proofs.bind.Bound.scales.Goals as goal
 

@@ -1,7 +1,7 @@
 use Rattle.std.proofs.Common.{◌<◌, length, get_or, ap, ◌∙◌, sym, subst, arith}
 use Rattle.std.specs.Option.{unwrap_or}
 use Rattle.ts_journal.specs.declared.batch.Change.{Change}
-use Rattle.ts_journal.specs.Entry.{Entry, Entries, IsBatch, change_of}
+use Rattle.ts_journal.specs.Journal.{Entry, Entries, IsBatch, change_of}
 use Rattle.ts_journal.proofs.BatchLemmas.{no_entry}
 use Rattle.ts_journal.proofs.JoinedLemmas.{joined_batch, joined_at, joined_length}
 use Rattle.ts_journal.proofs.batch.Batch.entry.Goals as goal

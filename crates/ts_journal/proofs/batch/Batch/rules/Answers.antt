@@ -1,5 +1,5 @@
 use Rattle.std.proofs.Common.{subst}
-use Rattle.ts_journal.specs.Entry.{Entries, IsBatch}
+use Rattle.ts_journal.specs.Journal.{Entries, IsBatch}
 use Rattle.ts_journal.proofs.JoinedLemmas.{joined_batch}
 use Rattle.ts_journal.proofs.batch.Batch.rules.Goals as goal
 

@@ -2,7 +2,7 @@ use Rattle.std.proofs.Common.{◌≡◌, ◌<◌, ℕ, Option, None, length, tak
 use Rattle.std.specs.Option.{unwrap_or}
 use Rattle.ts_journal.specs.declared.batch.Change.{Change}
 use Rattle.ts_journal.specs.declared.batch.Change.TheVariants.{Free}
-use Rattle.ts_journal.specs.Entry.{Entry, Entries, change_of, put, put_all}
+use Rattle.ts_journal.specs.Journal.{Entry, Entries, change_of, put, put_all}
 use Rattle.ts_journal.specs.Stored.{Listed, Sets, change_in}
 use Rattle.ts_journal.proofs.BatchLemmas.{no_entry, put_all-more}
 use Rattle.ts_journal.proofs.JoinedLemmas.{joined_length, left_here, left_more}

@@ -1,5 +1,5 @@
 use Rattle.std.proofs.Common.{◌≡◌, ◌+◌, ◌≤◌, take}
-use Rattle.ts_journal.specs.Entry.{put_all}
+use Rattle.ts_journal.specs.Journal.{put_all}
 use Rattle.ts_journal.proofs.JoinedLemmas.{IsLeft}
 use Rattle.ts_journal.proofs.batch.Batch.take_all.Given as goal
 

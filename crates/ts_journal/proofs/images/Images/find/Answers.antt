@@ -1,5 +1,5 @@
 use Rattle.std.proofs.Common.{◌^◌, ℕ, Some, get_or, map, sym, ap, ◌∙◌, arith}
-use Rattle.ts_journal.specs.Entry.{Entry, change_of}
+use Rattle.ts_journal.specs.Journal.{Entry, change_of}
 use Rattle.ts_journal.specs.Place.{place_of, stands_at}
 use Rattle.ts_journal.specs.Stored.{Listed, entry_of}
 use Rattle.ts_journal.proofs.BatchLemmas.{no_entry, found_at, none_at}

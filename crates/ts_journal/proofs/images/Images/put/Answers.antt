@@ -1,5 +1,5 @@
 use Rattle.std.proofs.Common.{List, map, sym, ap, subst, ◌∙◌, arith}
-use Rattle.ts_journal.specs.Entry.{Entry, put, IsBatch}
+use Rattle.ts_journal.specs.Journal.{Entry, put, IsBatch}
 use Rattle.ts_journal.specs.Place.{place_of, stands_at}
 use Rattle.ts_journal.specs.Stored.{Listed, entry_of}
 use Rattle.ts_journal.proofs.BatchLemmas.{put_batch}

@@ -1,6 +1,6 @@
 use Rattle.std.proofs.Common.{◌≡◌, ◌<◌, ◌^◌, ℕ, Some, None, List, length, map, get_or, refl, sym, ap, subst, ◌∙◌, arith}
 use Rattle.std.proofs.lemmas.Bool.{eqb-true}
-use Rattle.ts_journal.specs.Entry.{Entry, IsWhole, IsBatch, change_of}
+use Rattle.ts_journal.specs.Journal.{Entry, IsWhole, IsBatch, change_of}
 use Rattle.ts_journal.specs.Place.{place_of, stands_at}
 use Rattle.ts_journal.specs.Stored.{Listed, entry_of, Sets}
 use Rattle.ts_journal.proofs.BatchLemmas.{no_entry, stands_at-is, found_at, none_at}

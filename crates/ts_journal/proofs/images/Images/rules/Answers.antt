@@ -1,5 +1,5 @@
 use Rattle.std.proofs.Common.{subst}
-use Rattle.ts_journal.specs.Entry.{IsBatch}
+use Rattle.ts_journal.specs.Journal.{IsBatch}
 use Rattle.ts_journal.specs.Stored.{Listed}
 use Rattle.ts_journal.proofs.images.Images.rules.Goals as goal
 

@@ -1,7 +1,7 @@
 use Rattle.std.proofs.Common.{◌^◌, ℕ, List, nat_cmp, map, sym, ap, subst, ◌∙◌, arith}
 use Rattle.std.specs.List.Sorted.{IsBinarySearchResult}
 use Rattle.ts_journal.specs.declared.batch.Change.TheVariants.{Free}
-use Rattle.ts_journal.specs.Entry.{Entry, IsRising, change_of, put}
+use Rattle.ts_journal.specs.Journal.{Entry, IsRising, change_of, put}
 use Rattle.ts_journal.specs.Stored.{Listed, freed}
 use Rattle.ts_journal.proofs.BatchLemmas.{put_rising, none_at}
 use Rattle.ts_journal.proofs.StoredLemmas.{number_missing, number_new, number_same, number_there}

@@ -1,7 +1,7 @@
 use Rattle.std.proofs.Common.{ℕ, Bool, cond, Some, None, List, nat_cmp, sym, ap, subst, ◌∙◌}
 use Rattle.std.specs.List.Sorted.{IsBinarySearchResult}
 use Rattle.ts_journal.specs.declared.batch.Change.TheVariants.{Free}
-use Rattle.ts_journal.specs.Entry.{change_of}
+use Rattle.ts_journal.specs.Journal.{change_of}
 use Rattle.ts_journal.specs.Stored.{Listed}
 use Rattle.ts_journal.proofs.StoredLemmas.{has_number}
 use Rattle.ts_journal.proofs.numbers.Numbers.has.Goals as goal

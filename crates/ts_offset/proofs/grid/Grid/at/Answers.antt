@@ -1,7 +1,7 @@
 use Rattle.std.proofs.Common.{◌≡◌, ◌∙◌, sym, ap, arith, to_z, of_z, w64, subst}
 use Rattle.jiff_core.proofs.SignedLemmas.{signed_casts}
-use Rattle.ts_calendar.specs.Intervals.{start_at, is_on}
-use Rattle.ts_offset.specs.Walk.{IsOnStart}
+use Rattle.ts_calendar.specs.Calendars.{start_at, is_on}
+use Rattle.ts_offset.specs.Grid.{IsOnStart}
 use Rattle.ts_offset.proofs.StartLemmas.{first-at, at-around}
 use Rattle.ts_offset.proofs.grid.Grid.at.Goals as goal
 

@@ -1,6 +1,6 @@
 use Rattle.std.proofs.Common.{◌≡◌, arith, subst, to_z, of_z, w64, pos, ◌+ℤ◌}
 use Rattle.jiff_core.proofs.SignedLemmas.{signed_casts}
-use Rattle.ts_offset.specs.Walk.{IsEnd}
+use Rattle.ts_offset.specs.Grid.{IsEnd}
 use Rattle.ts_offset.proofs.sums.Sums.end.Goals as goal
 
 pub returns-clause-end : goal.returns-clause-end

@@ -1,7 +1,7 @@
 use Rattle.std.proofs.Common.{◌≡◌, ◌+◌, ◌<◌, ◌≤◌, sym, arith, subst, to_z, of_z, to_z-of_z, w64, pos, ◌+ℤ◌, ◌≤ℤ◌, ◌<ℤ◌}
 use Rattle.std.proofs.lemmas.Int.{by_lt_z, ints}
 use Rattle.jiff_core.proofs.SignedLemmas.{signed_casts}
-use Rattle.ts_calendar.specs.Intervals.{is_on}
+use Rattle.ts_calendar.specs.Calendars.{is_on}
 use Rattle.ts_offset.specs.Spans.{on_until}
 use Rattle.ts_offset.specs.Sums.{IsKnown}
 use Rattle.ts_offset.proofs.MakeLemmas.{off-outside, on-grows, on-more, on-same}

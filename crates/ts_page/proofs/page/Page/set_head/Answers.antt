@@ -1,5 +1,5 @@
 use Rattle.std.proofs.Common.{◌++◌, ap, ◌∙◌, List, ℕ}
-use Rattle.ts_page.specs.Head.{head_of}
+use Rattle.ts_page.specs.Pages.{head_of}
 use Rattle.ts_page.proofs.HeadLemmas.{head_of-written}
 use borrow.Rule.Slice.PartMut.{post_of}
 use Rattle.ts_page.proofs.page.Page.set_head.Goals as goal

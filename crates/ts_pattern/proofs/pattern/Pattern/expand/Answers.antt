@@ -1,8 +1,6 @@
 use Rattle.std.proofs.Common.{◌≡◌, ◌∙◌, ◌*◌, sym, ap, arith, map, Ok, true, List}
 use Rattle.ts_pattern.specs.declared.run.Run.{Run}
-use Rattle.ts_pattern.specs.Plan.{Plan}
-use Rattle.ts_pattern.specs.Runs.{total, is_pattern, scaled, flag}
-use Rattle.ts_pattern.specs.Units.{factor, is_made_of}
+use Rattle.ts_pattern.specs.Patterns.{Plan, total, is_pattern, scaled, flag, factor, is_made_of}
 use Rattle.ts_pattern.proofs.AlgebraLemmas.{total-scaled, flag-scaled}
 use Rattle.ts_pattern.proofs.PlanLemmas.{expanded-is, is_pattern-scaled, tested}
 use Rattle.ts_pattern.proofs.pattern.Pattern.expand.Goals as goal

@@ -1,8 +1,5 @@
 use Rattle.std.proofs.Common.{◌≡◌, ◌∙◌, sym, ap, Some, to_z, of_z, w64, to_z-of_z}
-use Rattle.ts_pattern.specs.Plan.{Plan}
-use Rattle.ts_pattern.specs.Units.{smaller_unit}
-use Rattle.ts_pattern.specs.Multiples.{least_common_multiple}
-use Rattle.ts_pattern.specs.Algebra.{joined_length}
+use Rattle.ts_pattern.specs.Patterns.{Plan, smaller_unit, least_common_multiple, joined_length}
 use Rattle.ts_pattern.proofs.PlanLemmas.{answer-joined, flags-joined, length-joined}
 use Rattle.ts_pattern.proofs.pattern.Pattern.join_shifted.Goals as goal
 

@@ -1,8 +1,6 @@
 use Rattle.std.proofs.Common.{◌≡◌, ◌∙◌, ap, arith, ℕ, ◌<◌, ◌*◌, map, List, pos, to_z-of_z}
 use Rattle.ts_pattern.specs.declared.run.Run.{Run}
-use Rattle.ts_pattern.specs.Runs.{total, scaled}
-use Rattle.ts_pattern.specs.Units.{factor}
-use Rattle.ts_pattern.specs.Algebra.{plan_of_flags, joined_flag}
+use Rattle.ts_pattern.specs.Patterns.{total, scaled, factor, plan_of_flags, joined_flag}
 use Rattle.ts_pattern.specs.Line.{side_by_side}
 use Rattle.ts_pattern.proofs.WholeLemmas.{place}
 use Rattle.ts_pattern.proofs.AlgebraLemmas.{side_by_side-joined}

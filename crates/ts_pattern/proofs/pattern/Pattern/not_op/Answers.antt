@@ -1,6 +1,5 @@
 use Rattle.std.proofs.Common.{◌≡◌, ◌∙◌, sym, ap, map}
-use Rattle.ts_pattern.specs.Plan.{Plan}
-use Rattle.ts_pattern.specs.Runs.{total, is_pattern, turned, flag}
+use Rattle.ts_pattern.specs.Patterns.{Plan, total, is_pattern, turned, flag}
 use Rattle.ts_pattern.proofs.TurnLemmas.{total-turned, is_pattern-turned}
 use Rattle.ts_pattern.proofs.AlgebraLemmas.{flag-turned}
 use Rattle.ts_pattern.proofs.CursorLemmas.{pattern-merged}

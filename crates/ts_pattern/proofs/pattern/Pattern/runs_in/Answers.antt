@@ -1,7 +1,5 @@
 use Rattle.std.proofs.Common.{◌≡◌, ◌∙◌, sym, ap, map}
-use Rattle.ts_pattern.specs.Plan.{Plan}
-use Rattle.ts_pattern.specs.Runs.{total, is_pattern, scaled}
-use Rattle.ts_pattern.specs.Units.{factor}
+use Rattle.ts_pattern.specs.Patterns.{Plan, total, is_pattern, scaled, factor}
 use Rattle.ts_pattern.proofs.AlgebraLemmas.{total-scaled}
 use Rattle.ts_pattern.proofs.PlanLemmas.{is_pattern-scaled, factor-positive}
 use Rattle.ts_pattern.proofs.pattern.Pattern.runs_in.Goals as goal

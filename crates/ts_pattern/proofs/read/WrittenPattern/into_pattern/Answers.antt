@@ -1,5 +1,5 @@
 use Rattle.std.proofs.Common.{◌≡◌, ◌∙◌, ◌≤◌, ap, arith, length}
-use Rattle.ts_pattern.specs.Runs.{total, flag_at, runs_of, is_pattern}
+use Rattle.ts_pattern.specs.Patterns.{total, flag_at, runs_of, is_pattern}
 use Rattle.ts_pattern.proofs.GrowLemmas.{length-runs_from-le, is_pattern-runs_of}
 use Rattle.ts_pattern.proofs.MergeLemmas.{total-some}
 use Rattle.ts_pattern.proofs.read.WrittenPattern.into_pattern.Goals as goal

@@ -3,7 +3,7 @@ use Rattle.std.proofs.Common.{◌≡◌, ap, subst, ◌∙◌, arith}
 use Rattle.std.proofs.lemmas.Bool.Decides.{nat_tests}
 use Rattle.std.proofs.lemmas.Result.{IfOk-weaker}
 use Rattle.std.proofs.Math.Facts.{Fits-lt-pow}
-use Rattle.ts_row.specs.RowType.{Heading}
+use Rattle.ts_row.specs.Row.{Heading}
 use Rattle.ts_row.specs.Decoding.{row_in}
 use Rattle.ts_row.proofs.RowBytesLemmas.{valid, meaning, meaning_fits}
 use Rattle.ts_row.proofs.row_type.RowType.decode.Goals as goal

@@ -1,7 +1,7 @@
 -- The bytes of the values, and the mark of a hidden row.
 use Rattle.std.proofs.Common.{◌≡◌, Bool, List, true, false, sym, ap, subst, ◌∙◌}
 use Rattle.ts_row.specs.declared.kind.Column.{Column}
-use Rattle.ts_row.specs.RowType.{Heading}
+use Rattle.ts_row.specs.Row.{Heading}
 use Rattle.ts_row.specs.Encoding.{values_bytes, with_mark, Marks}
 use Rattle.ts_row.proofs.RowBytesLemmas.{with_mark-none, row_bytes-marked}
 use Rattle.ts_row.proofs.row_type.RowType.encode.Goals as goal

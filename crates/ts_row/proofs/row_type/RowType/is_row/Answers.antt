@@ -2,7 +2,7 @@
 use Rattle.std.proofs.Common.{◌≡◌, ◌↔◌, IsTrue, Bool, is_some, ap, subst, sym, ◌∙◌, arith}
 use Rattle.std.proofs.lemmas.Bool.Decides.{nat_tests}
 use Rattle.std.proofs.Math.Facts.{Fits-lt-pow}
-use Rattle.ts_row.specs.RowType.{Heading}
+use Rattle.ts_row.specs.Row.{Heading}
 use Rattle.ts_row.specs.Encoding.{AreRowBytes}
 use Rattle.ts_row.specs.Decoding.{row_in}
 use Rattle.ts_row.proofs.RowBytesLemmas.{valid, row_bytes_if_some}

@@ -1,8 +1,7 @@
 -- The visible row of the values that are given.
 use Rattle.std.proofs.Common.{◌≡◌, ◌++◌, IsOkAnd, List, ap, subst, ◌∙◌}
 use Rattle.ts_row.specs.declared.kind.Column.{Column}
-use Rattle.ts_row.specs.RowType.{Heading}
-use Rattle.ts_row.specs.Row.{values_from}
+use Rattle.ts_row.specs.Row.{Heading, values_from}
 use Rattle.ts_row.proofs.RowLemmas.{given_fits, row_of-put}
 use Rattle.ts_row.proofs.row_type.RowType.row_of.Goals as goal
 

@@ -2,7 +2,7 @@ use Rattle.std.proofs.Common.{◌≡◌, List, Option, Some, map, ap, sym, ◌�
 use Rattle.std.specs.Prelude.{ℤ}
 use Rattle.std.proofs.lemmas.Result.{err_from_is_err_and}
 use Rattle.ts_row.specs.Row.{Values, visible}
-use Rattle.ts_running.specs.Operands.{numbers_of, value_if_any, applied}
+use Rattle.ts_running.specs.Binding.{numbers_of, value_if_any, applied}
 use Rattle.ts_running.proofs.ApplyLemmas.{fails_applies}
 use Rattle.ts_running.proofs.bind.BoundExpr.apply.Goals as goal
 

@@ -7,9 +7,8 @@ use Rattle.ts_row.specs.declared.kind.Column.{Column as TheColumn}
 use Rattle.ts_base.specs.Answer.{Fails}
 use Rattle.ts_running.specs.declared.step.Step.{Step}
 use Rattle.ts_running.specs.declared.bind.Source.{Source}
-use Rattle.ts_running.specs.Expr.{all_steps}
-use Rattle.ts_running.specs.Parts.{made_of_all, after_steps}
-use Rattle.ts_running.specs.Binding.{Sourced, part_scales, bound_steps}
+use Rattle.ts_running.specs.Grammar.{all_steps}
+use Rattle.ts_running.specs.Binding.{made_of_all, after_steps, Sourced, part_scales, bound_steps}
 use Rattle.ts_running.specs.declared.instruction.Instruction.{Instruction}
 use Rattle.ts_running.specs.declared.scale.ScaledExprs.{ScaledExprs}
 use Rattle.ts_running.specs.Instructions.{instructions_of}

@@ -2,7 +2,7 @@
 use Rattle.std.proofs.Common.{◌∙◌, sym, ap, List, Option, Some}
 use Rattle.std.specs.Prelude.{ℤ}
 use Rattle.std.proofs.lemmas.Result.{on_ok_weaker}
-use Rattle.ts_running.specs.Operands.{numbers_row}
+use Rattle.ts_running.specs.Binding.{numbers_row}
 use Rattle.ts_running_rows.proofs.MadeLemmas.{applied_handed}
 use Rattle.ts_running_rows.proofs.application.AppliedRows.apply.Goals as goal
 

@@ -2,8 +2,7 @@ use Rattle.std.proofs.Common.{[], ◌∷◌, codes, Err, sym, ap}
 use Rattle.ts_base.specs.declared.refusal.Refusal.TheVariants as refusals
 use Rattle.ts_items.specs.Reader.{item_of}
 use Rattle.ts_items.specs.declared.reader.Cut.{Cut}
-use Rattle.ts_command.specs.Grammar.{command_of}
-use Rattle.ts_command.specs.Script.{request_of, or_syntax}
+use Rattle.ts_command.specs.Grammar.{command_of, request_of, or_syntax}
 use Rattle.ts_script_runs.proofs.ItemLemmas.{line_ran, refused_step, too_long_line, unended_line}
 use Rattle.ts_script_runs.proofs.FeedLemmas.{ran_of}
 use Rattle.ts_script_runs.proofs.session.Session.carry_out.Goals as goal

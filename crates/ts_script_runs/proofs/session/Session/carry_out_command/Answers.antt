@@ -4,7 +4,7 @@ use Rattle.ts_opening.specs.Faults as faults
 use Rattle.ts_replies.specs.Acknowledged.{memory_line}
 use Rattle.ts_carriers.proofs.CallerLemmas.{Steps, said_ran}
 use Rattle.ts_script_runs.proofs.ItemLemmas.{steady, steps_done, steps_wanting, failed_ran, never_closed}
-use Rattle.ts_script_runs.specs.Run.{script, by_engine}
+use Rattle.ts_script_runs.specs.Script.{script, by_engine}
 use Rattle.ts_script_runs.proofs.session.Session.carry_out_command.Goals as goal
 
 pub returns-in-Ok-clause-ran : goal.returns-in-Ok-clause-ran

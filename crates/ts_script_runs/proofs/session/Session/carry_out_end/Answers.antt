@@ -1,11 +1,11 @@
 use Rattle.std.proofs.Common.{[], ◌∷◌, codes, sym, ◌∙◌, Ok, Err}
 use Rattle.ts_base.specs.declared.refusal.Refusal.TheVariants as refusals
 use Rattle.ts_items.specs.Items.{is_unended_at}
-use Rattle.ts_script_runs.specs.Run.{requests_at_end}
+use Rattle.ts_script_runs.specs.Script.{requests_at_end}
 use Rattle.ts_script_runs.proofs.ItemLemmas.{steady, line_ran, refused_step, unended_line}
 use Rattle.ts_carriers.proofs.CallerLemmas.{ran_none}
 use Rattle.ts_script_runs.proofs.FeedLemmas.{ran_of, end_none, end_some}
-use Rattle.ts_script_runs.specs.Run.{script, by_engine}
+use Rattle.ts_script_runs.specs.Script.{script, by_engine}
 use Rattle.ts_script_runs.proofs.session.Session.carry_out_end.Goals as goal
 
 pub returns-in-None-clause-ran : goal.returns-in-None-clause-ran

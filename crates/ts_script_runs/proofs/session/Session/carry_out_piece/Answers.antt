@@ -4,7 +4,7 @@ use Rattle.std.proofs.lemmas.List.{append-nil}
 use Rattle.ts_items.specs.Items.{place_from}
 use Rattle.ts_items.proofs.ItemLaws.{place_from-append}
 use Rattle.ts_items.proofs.RunLemmas.{rest_whole}
-use Rattle.ts_script_runs.specs.Run.{script, by_engine, requests_from}
+use Rattle.ts_script_runs.specs.Script.{script, by_engine, requests_from}
 use Rattle.ts_script_runs.proofs.ItemLemmas.{steady}
 use Rattle.ts_carriers.proofs.CallerLemmas.{ran_none, ran_as, ran_failed_as}
 use Rattle.ts_script_runs.proofs.FeedLemmas.{ran_behind, ran_of}

@@ -1,7 +1,7 @@
 use Rattle.std.proofs.Common.{◌≡◌, ◌++◌, ℕ, List, length, Ok}
 use Rattle.ts_items.specs.Items.{place_from}
 use Rattle.ts_opening.specs.Engine.{IsReady}
-use Rattle.ts_script_runs.specs.Run.{script, by_engine, requests_from}
+use Rattle.ts_script_runs.specs.Script.{script, by_engine, requests_from}
 use Rattle.ts_carriers.specs.Run.{Ran}
 use Rattle.ts_script_runs.proofs.session.Session.carry_out_piece.Given as goal
 

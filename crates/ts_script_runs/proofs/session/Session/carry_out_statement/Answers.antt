@@ -1,8 +1,7 @@
 use Rattle.std.proofs.Common.{◌≡◌, ℕ, List, [], ◌∷◌, inr, codes, Ok, Err, refl, sym, ◌∙◌, ap}
 use Rattle.ts_base.specs.declared.refusal.Refusal.{Refusal}
 use Rattle.ts_base.specs.declared.refusal.Refusal.TheVariants as refusals
-use Rattle.ts_command.specs.Grammar.{command_of}
-use Rattle.ts_command.specs.Script.{Request, or_syntax}
+use Rattle.ts_command.specs.Grammar.{command_of, Request, or_syntax}
 use Rattle.ts_replies.specs.Acknowledged.{memory_line}
 use Rattle.ts_script_runs.proofs.ItemLemmas.{line_ran, refused_step, syntax_line, syntax_at, statement_stand_in}
 use Rattle.ts_script_runs.proofs.FeedLemmas.{ran_of}

@@ -1,6 +1,6 @@
 use Rattle.std.proofs.Common.{[], ◌∷◌, codes, Err, sym, subst}
 use Rattle.ts_base.specs.declared.refusal.Refusal.TheVariants as refusals
-use Rattle.ts_command.specs.Script.{request_of}
+use Rattle.ts_command.specs.Grammar.{request_of}
 use Rattle.ts_session_scripts.specs.Piece.{item_of_piece}
 use Rattle.ts_session_scripts.specs.declared.piece.Piece.{Piece}
 use Rattle.ts_session_turns.specs.Hand.{hand}

@@ -1,8 +1,7 @@
 use Rattle.std.proofs.Common.{[], ◌∷◌, codes, inr, Err, refl, sym, ap, subst}
 use Rattle.ts_base.specs.declared.refusal.Refusal.{Refusal}
 use Rattle.ts_base.specs.declared.refusal.Refusal.TheVariants as refusals
-use Rattle.ts_command.specs.Grammar.{command_of}
-use Rattle.ts_command.specs.Script.{Request, or_syntax}
+use Rattle.ts_command.specs.Grammar.{command_of, Request, or_syntax}
 use Rattle.ts_session_turns.specs.Hand.{hand}
 use Rattle.ts_session_runs.specs.Carrier.{turn_of}
 use Rattle.ts_session_runs.specs.Hall.{TurnsRan}

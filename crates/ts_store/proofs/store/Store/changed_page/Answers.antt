@@ -2,7 +2,7 @@ use Rattle.std.proofs.Common.{◌≡◌, ◌++◌, ◌-◌, ℕ, length, slice_i
 use Rattle.std.proofs.lemmas.List.{get_or-append_right}
 use Rattle.ts_page.specs.Pages.{IsOutsideJournal}
 use Rattle.ts_journal.specs.declared.batch.Change.TheVariants.{Free}
-use Rattle.ts_journal.specs.Entry.{Entry}
+use Rattle.ts_journal.specs.Journal.{Entry}
 use Rattle.ts_journal.proofs.HomeLemmas.{allowed_at}
 use Rattle.ts_store.specs.OpenBatch.{State}
 use Rattle.ts_store.proofs.store.Store.changed_page.Goals as goal

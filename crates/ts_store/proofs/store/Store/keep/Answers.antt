@@ -1,5 +1,5 @@
 use Rattle.std.proofs.Common.{refl, ap, ◌∙◌}
-use Rattle.ts_journal.specs.Entry.{over}
+use Rattle.ts_journal.specs.Journal.{over}
 use Rattle.ts_store.specs.OpenBatch.{State, committed_pages, read_pages}
 use Rattle.ts_store.specs.contracts.store.Store.{the_view}
 use Rattle.ts_store.proofs.ReadLemmas.{read_joined}

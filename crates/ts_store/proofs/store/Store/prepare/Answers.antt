@@ -1,6 +1,6 @@
 use Rattle.std.proofs.Common.{◌^◌, List, length, ap, arith}
 use Rattle.std.proofs.lemmas.Result.{on_ok_weaker}
-use Rattle.ts_journal.specs.Entry.{Entry, put_all}
+use Rattle.ts_journal.specs.Journal.{Entry, put_all}
 use Rattle.ts_journal.proofs.BatchLemmas.{length_rising}
 use Rattle.ts_store.proofs.JoinLemmas.{joined_length}
 use Rattle.ts_store.proofs.store.Store.prepare.Goals as goal

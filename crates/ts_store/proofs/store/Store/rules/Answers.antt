@@ -1,5 +1,5 @@
 use Rattle.std.proofs.Common.{subst}
-use Rattle.ts_journal.specs.Entry.{IsBatch}
+use Rattle.ts_journal.specs.Journal.{IsBatch}
 use Rattle.ts_store.specs.OpenBatch.{State}
 use Rattle.ts_store.proofs.store.Store.rules.Goals as goal
 

@@ -1,5 +1,5 @@
 use Rattle.std.proofs.Common.{sym, ap, subst, ℕ}
-use Rattle.ts_journal.specs.Entry.{IsAllowed}
+use Rattle.ts_journal.specs.Journal.{IsAllowed}
 use Rattle.ts_store.specs.OpenBatch.{State}
 use Rattle.ts_store.proofs.CacheLemmas.{sound_set, sound_same}
 use Rattle.ts_store.proofs.store.Store.set.Goals as goal

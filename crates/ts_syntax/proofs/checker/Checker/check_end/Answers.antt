@@ -1,6 +1,6 @@
 use Rattle.std.proofs.Common.{[], refl, sym, ◌∙◌, arith}
 use Rattle.ts_items.specs.Items.{Unended}
-use Rattle.ts_command.specs.Script.{request_of}
+use Rattle.ts_command.specs.Grammar.{request_of}
 use Rattle.ts_syntax.specs.Mistakes.{mistakes_of, mistakes_at_end, text_at}
 use Rattle.ts_syntax.specs.declared.checker.Checker.{Checker}
 use Rattle.ts_syntax.proofs.ReadLemmas.{stands-le, stands_same, end_some, end_none}

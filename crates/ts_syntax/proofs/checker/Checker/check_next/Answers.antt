@@ -2,7 +2,7 @@ use Rattle.std.proofs.Common.{Bool, ℕ, ◌<◌, ◌^◌, ◌++◌, List, [], t
 use Rattle.std.proofs.lemmas.List.{length-take}
 use Rattle.ts_items.specs.Items.{place_from}
 use Rattle.ts_items.specs.Reader.{item_of}
-use Rattle.ts_command.specs.Script.{request_of}
+use Rattle.ts_command.specs.Grammar.{request_of}
 use Rattle.ts_syntax.specs.Mistakes.{Mistake, mistakes_of, mistakes_from, text_at}
 use Rattle.ts_syntax.specs.Reading.{Told}
 use Rattle.ts_syntax.specs.declared.checker.Checker.{Checker}

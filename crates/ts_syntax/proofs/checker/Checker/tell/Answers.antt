@@ -1,5 +1,5 @@
 use Rattle.std.proofs.Common.{◌≡◌, ◌∷◌, [], ◌++◌, ℕ, List, length, take, Some, None, refl, sym, ◌∙◌, ap, arith, length-append}
-use Rattle.ts_command.specs.Script.{request_of}
+use Rattle.ts_command.specs.Grammar.{request_of}
 use Rattle.ts_items.specs.Reader.{item_of}
 use Rattle.ts_syntax.specs.Mistakes.{Mistake, mistakes_of}
 use Rattle.ts_syntax.specs.Reading.{told_at}
