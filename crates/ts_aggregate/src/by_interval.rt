@@ -16,10 +16,9 @@ use crate::run::{Piece, cells_before};
 use crate::span::{Span, is_before};
 use crate::wanted::WantedIntervals;
 use std::alloc::AllocError;
-use std::mem;
 use ts_base::Stamp;
 use ts_entry::{ElementVisitor, RowVisitor, Stamps};
-use ts_row::{Row, RowType, Value};
+use ts_row::{Row, RowType};
 
 /// The most rows of a reply.
 pub(crate) const MOST_ROWS: u64 = 1_000_000;
@@ -38,8 +37,6 @@ pub(crate) struct ByInterval<'a, 'b, V> {
     count: u64,
     /// How many cells the last piece had.
     mostly: usize,
-    /// Memory for the values of a row.
-    room: Vec<Value>,
 }
 
 impl<'a, 'b, V: ElementVisitor> ByInterval<'a, 'b, V> {
@@ -58,7 +55,6 @@ impl<'a, 'b, V: ElementVisitor> ByInterval<'a, 'b, V> {
             → Stands (grouping result.wanted.now result.span result.folding.now result.count) [] }
     {
         let span = wanted.first_span();
-        let room = folding.no_values();
         ByInterval {
             wanted,
             span,
@@ -66,7 +62,6 @@ impl<'a, 'b, V: ElementVisitor> ByInterval<'a, 'b, V> {
             out,
             count: 0,
             mostly: 1,
-            room,
         }
     }
 
@@ -93,11 +88,8 @@ impl<'a, 'b, V: ElementVisitor> ByInterval<'a, 'b, V> {
         let Some(start) = self.span.start else {
             return Ok(());
         };
-        let empty = self.folding.no_values();
-        let room = mem::replace(&mut self.room, empty);
-        let row = self.folding.finish_in(room)?;
+        let row = self.folding.finish()?;
         self.hand_on(start, &row)?;
-        self.room = row.into_values();
         Ok(())
     }
 

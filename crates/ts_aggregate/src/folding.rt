@@ -53,27 +53,12 @@ impl<'a> Folding<'a> {
         ensures same { self.new.binding ≡ self.old.binding }
         ensures none { OnOk result (HasTaken self.new []) }
     {
-        let room = Vec::with_capacity(*self.tallies.allocator(), self.bound.items().len())?;
-        self.finish_in(room)
-    }
-
-    /// The same in the memory of a list.
-    #[inline(always)]
-    pub(crate) fn finish_in(&mut self, room: Vec<Value>) -> Result<Row, AllocError>
-        ensures made { IfOk result (λ row. (rows : List TheRow) → HasTaken self.old rows → length rows ≤ most_folded
-            → row ≡ folded_row self.old.binding.items rows) }
-        ensures same { self.new.binding ≡ self.old.binding }
-        ensures none { OnOk result (HasTaken self.new []) }
-    {
-        let values = renew_all(room, self.bound.items(), &mut self.tallies)?;
+        let values = renew_all(
+            *self.tallies.allocator(),
+            self.bound.items(),
+            &mut self.tallies,
+        )?;
         Ok(Row::of(values))
-    }
-
-    /// A list with no values.
-    pub(crate) fn no_values(&self) -> Vec<Value>
-        ensures { result.items ≡ [] }
-    {
-        Vec::new(*self.tallies.allocator())
     }
 }
 
@@ -140,7 +125,7 @@ impl<'a> RowVisitor for Folding<'a> {
 // What the items make of what is known of the rows; then nothing is known.
 #[inline(always)]
 fn renew_all(
-    room: Vec<Value>,
+    alloc: Global,
     items: &[BoundItem],
     tallies: &mut [Tally],
 ) -> Result<Vec<Value>, AllocError>
@@ -149,8 +134,7 @@ fn renew_all(
     ensures value { IfOk result (λ values. values.items ≡ map value_of tallies.old) }
     ensures none { OnOk result (tallies.new ≡ after items.now []) }
 {
-    let mut values = room;
-    values.clear();
+    let mut values = Vec::with_capacity(alloc, items.len())?;
     for (number, item) in items.iter().enumerate() {
         values.push(tallies[number].renew(item.function))?;
     }
