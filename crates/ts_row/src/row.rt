@@ -38,6 +38,13 @@ impl Row {
         self.values.as_slice()
     }
 
+    /// Its values, with their memory.
+    pub fn into_values(self) -> Vec<Value>
+        ensures { result.items ≡ self.values }
+    {
+        self.values
+    }
+
     /// Whether the element is hidden.
     pub fn hidden(&self) -> bool
         ensures { result ≡ self.now.hidden }
