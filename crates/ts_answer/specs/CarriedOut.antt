@@ -28,7 +28,7 @@ definitions_after Pages d = d
 definitions_after (Slot kind slot def) d = with_slot kind slot def d
 definitions_after (Places slot moved) d = d
 definitions_after (Series slot) d = with_slot kinds.Series slot None d
-definitions_after (Whole tables space) d = tables.definitions
+definitions_after (Whole tables space) d = tables.value.definitions
 
 abbrev pub lists_after : Effect → List (List Place) → List (List Place)
 lists_after Nothing lists = lists

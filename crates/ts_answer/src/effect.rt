@@ -27,9 +27,9 @@ pub enum Effect {
     Series {
         slot: u16,
     },
-    /// All that is in memory becomes this.
+    /// All that is in memory becomes this. In a box: so large a value would make each effect as large.
     Whole {
-        defs: Defs,
+        defs: Box<Defs>,
         space: Space,
     },
 }

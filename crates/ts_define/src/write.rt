@@ -9,18 +9,18 @@ ghost use Rattle.ts_command.specs.Boundary.{is_writing};
 ghost use Rattle.ts_answer.specs.Decided.{IsDecision, FitsSlot, made_line};
 ghost use Rattle.ts_answer.specs.View.{view};
 
-use std::alloc::{AllocError, Global};
+use std::alloc::AllocError;
 use ts_answer::{Effect, Stop};
 use ts_base::{Reply, Trouble};
 use ts_container::write_slot;
 use ts_model::{Def, Kind};
-use ts_page::Pages;
+use ts_page::{Page, Pages};
 use ts_say::{say_ok, say_stamp};
 
-/// Carries out what was decided on definitions: the change of one slot, or a refusal.
+/// Carries out what was decided on definitions: the change of one slot, or a refusal. `page` is room to read one.
 pub fn redefine<P: Pages>(
-    alloc: Global,
     pages: &mut P,
+    page: &mut Page,
     kind: Kind,
     decided: Result<(u16, Option<Def>), Trouble>,
     out: &mut Reply,
@@ -37,7 +37,7 @@ pub fn redefine<P: Pages>(
 {
     let (slot, def) = decided?;
     say_made(out, &def)?;
-    write_slot(alloc, pages, kind, slot, def.as_ref())?;
+    write_slot(pages, page, kind, slot, def.as_ref())?;
     Ok(Effect::Slot { kind, slot, def })
 }
 

@@ -63,7 +63,7 @@ pub fn apply(
             space: directory,
         } => {
             charges.count(&new, &directory);
-            *defs = new;
+            *defs = Box::into_inner(new);
             *space = directory;
         }
     }

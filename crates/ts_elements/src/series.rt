@@ -12,14 +12,15 @@ use ts_chain::free_pages;
 use ts_container::write_slot;
 use ts_define::series_named;
 use ts_model::{Defs, Kind};
-use ts_page::Pages;
+use ts_page::{Page, Pages};
 use ts_say::say_ok;
 use ts_space::Space;
 
-/// Drops a series with its elements: frees its pages and empties its slot.
+/// Drops a series with its elements: frees its pages and empties its slot. `page` is room to read one.
 pub fn drop_series<P: Pages>(
     alloc: Global,
     pages: &mut P,
+    page: &mut Page,
     defs: &Defs,
     space: &Space,
     key: &Key,
@@ -36,6 +37,6 @@ pub fn drop_series<P: Pages>(
     let slot = series_named(defs, key)?;
     say_ok(out)?;
     free_pages(alloc, pages, space.places(slot))?;
-    write_slot(alloc, pages, Kind::Series, slot, None)?;
+    write_slot(pages, page, Kind::Series, slot, None)?;
     Ok(Effect::Series { slot })
 }

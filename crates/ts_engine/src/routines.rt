@@ -63,7 +63,7 @@ pub(crate) fn edit<P: Pages>(
     ensures undisturbed { P.undisturbed pages.old pages.new }
 {
     let came = match command {
-        Command::DropSeries { key } => drop_series(alloc, pages, defs, space, key, out),
+        Command::DropSeries { key } => { drop_series(alloc, pages, page, defs, space, key, out) }
         Command::PutElem { key, stamp, values } => {
             let edit = EditKind::Put;
             edit_element(
@@ -99,7 +99,7 @@ pub(crate) fn edit<P: Pages>(
                 alloc, pages, page, defs, space, charges, set, *stamp, values, out,
             )
         }
-        Command::RollingDrop { set } => rolling_drop(alloc, pages, defs, space, set, out),
+        Command::RollingDrop { set } => { rolling_drop(alloc, pages, page, defs, space, set, out) }
         Command::HideElem { key, stamp } => {
             mark_element(pages, page, defs, space, true, key, *stamp, out)
         }

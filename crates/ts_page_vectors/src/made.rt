@@ -10,7 +10,7 @@ use ts_calendar::Calendar;
 use ts_container::write_slot;
 use ts_model::{Def, Kind};
 use ts_offset::Counter;
-use ts_page::MemoryPages;
+use ts_page::{MemoryPages, Page};
 use ts_pattern::{Pattern, Run};
 use ts_row::{Column, ColumnKind, RowType};
 
@@ -128,7 +128,7 @@ pub(crate) fn put_def(
 {
     match made {
         Ok(def) => {
-            let written = write_slot(alloc, pages, kind, slot, Some(&def));
+            let written = write_slot(pages, &mut Page::zero(), kind, slot, Some(&def));
             mem::drop(def);
             written
         }

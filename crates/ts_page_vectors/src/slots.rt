@@ -35,7 +35,7 @@ fn write(
         return Err(StoreFault::Failed);
     }
     if !is_there {
-        return write_slot(alloc, pages, kind, slot, None);
+        return write_slot(pages, &mut Page::zero(), kind, slot, None);
     }
     put_def(alloc, pages, kind, slot, def(alloc, kind, text))
 }

@@ -220,12 +220,12 @@ module _ (tells : Bool) where
       carried copies came grows =
           let space_after : Directory = record x.space { lists = copies.space.lists } in
           record {
-            keeps = λ kept. rules_alike copies.defs.definitions copies.defs.definitions copies.space space_after c (came.keeps kept) refl refl;
+            keeps = λ kept. rules_alike copies.defs.value.definitions copies.defs.value.definitions copies.space space_after c (came.keeps kept) refl refl;
             done = λ told l shows.
                 let one = came.done told l shows in
                 record {
                   layout = one.0;
-                  shows = shows_alike tells copies.defs.definitions copies.defs.definitions copies.space space_after c one.0 one.1 refl refl;
+                  shows = shows_alike tells copies.defs.value.definitions copies.defs.value.definitions copies.space space_after c one.0 one.1 refl refl;
                   comes = λ again. one.2;
                 };
             applies = tt;

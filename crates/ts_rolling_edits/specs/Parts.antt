@@ -19,7 +19,7 @@ use Rattle.ts_rolling_edits.specs.declared.copies.Copies.{Copies}
 
 -- what is seen on copies, with these pages
 abbrev pub seen_on : Copies → Contents → View
-seen_on copies c = view copies.defs.definitions copies.space c
+seen_on copies c = view copies.defs.value.definitions copies.space c
 
 -- Edits were carried out, all of them: what is in memory keeps its rules, and where the pages are told, from each
 -- layout that was seen one comes that is seen then, whose catalogue is what becomes of the first one's.

@@ -19,15 +19,16 @@ use ts_page::{Page, Pages};
 use ts_rolling::window_key;
 use ts_series::EditKind;
 
-/// Drops a series, if it is there.
+/// Drops a series, if it is there. `page` is room to read one, here and below.
 pub(crate) fn drop_if_there<P: Pages>(
     alloc: Global,
     pages: &mut P,
+    page: &mut Page,
     copies: &mut Copies,
     key: &Key,
 ) -> Result<(), Stop>
     requires seen { IsSeen P.tells (seen_on copies.old (P.contents pages.old)) }
-    requires charged { AreCharges copies.old.charges copies.old.defs.definitions copies.old.space }
+    requires charged { AreCharges copies.old.charges copies.old.defs.value.definitions copies.old.space }
     ensures part { IsPart P.tells (IsWithout key.now)
         Never result copies.new.charges
         (seen_on copies.old (P.contents pages.old)) (seen_on copies.new (P.contents pages.new)) }
@@ -35,7 +36,15 @@ pub(crate) fn drop_if_there<P: Pages>(
     ensures undisturbed { P.undisturbed pages.old pages.new }
 {
     let mut said = Reply::new(alloc);
-    match drop_series(alloc, pages, &copies.defs, &copies.space, key, &mut said) {
+    match drop_series(
+        alloc,
+        pages,
+        page,
+        &copies.defs,
+        &copies.space,
+        key,
+        &mut said,
+    ) {
         Ok(effect) => {
             copies.take(alloc, effect)?;
             Ok(())
@@ -50,6 +59,7 @@ pub(crate) fn drop_if_there<P: Pages>(
 pub(crate) fn drop_windows<P: Pages>(
     alloc: Global,
     pages: &mut P,
+    page: &mut Page,
     copies: &mut Copies,
     set: &Key,
     windows: &[u64],
@@ -57,7 +67,7 @@ pub(crate) fn drop_windows<P: Pages>(
     requires short { length set.now ≤ 40 }
     requires few { EachIndex windows.now (λ k. slice_index windows.now k < 1_000_000_000_000) }
     requires seen { IsSeen P.tells (seen_on copies.old (P.contents pages.old)) }
-    requires charged { AreCharges copies.old.charges copies.old.defs.definitions copies.old.space }
+    requires charged { AreCharges copies.old.charges copies.old.defs.value.definitions copies.old.space }
     ensures part { IsPart P.tells (λ cat after. after ≡ without_windows set.now windows.now cat)
         Never result copies.new.charges
         (seen_on copies.old (P.contents pages.old)) (seen_on copies.new (P.contents pages.new)) }
@@ -66,7 +76,7 @@ pub(crate) fn drop_windows<P: Pages>(
 {
     for window in windows {
         let key = window_key(alloc, set, *window)?;
-        drop_if_there(alloc, pages, copies, &key)?;
+        drop_if_there(alloc, pages, page, copies, &key)?;
     }
     Ok(())
 }
@@ -75,13 +85,14 @@ pub(crate) fn drop_windows<P: Pages>(
 pub(crate) fn open_window<P: Pages>(
     alloc: Global,
     pages: &mut P,
+    page: &mut Page,
     copies: &mut Copies,
     attach: bool,
     key: &Key,
     container: &Name,
 ) -> Result<(), Stop>
     requires seen { IsSeen P.tells (seen_on copies.old (P.contents pages.old)) }
-    requires charged { AreCharges copies.old.charges copies.old.defs.definitions copies.old.space }
+    requires charged { AreCharges copies.old.charges copies.old.defs.value.definitions copies.old.space }
     ensures part { IsPart P.tells (λ cat after. with_window attach key.now container.now cat ≡ Ok after)
         (λ refusal cat. with_window attach key.now container.now cat ≡ Err refusal) result copies.new.charges
         (seen_on copies.old (P.contents pages.old)) (seen_on copies.new (P.contents pages.new)) }
@@ -91,19 +102,20 @@ pub(crate) fn open_window<P: Pages>(
     if !attach {
         return Ok(());
     }
-    make_window(alloc, pages, copies, key, container)
+    make_window(alloc, pages, page, copies, key, container)
 }
 
 // Makes it.
 fn make_window<P: Pages>(
     alloc: Global,
     pages: &mut P,
+    page: &mut Page,
     copies: &mut Copies,
     key: &Key,
     container: &Name,
 ) -> Result<(), Stop>
     requires seen { IsSeen P.tells (seen_on copies.old (P.contents pages.old)) }
-    requires charged { AreCharges copies.old.charges copies.old.defs.definitions copies.old.space }
+    requires charged { AreCharges copies.old.charges copies.old.defs.value.definitions copies.old.space }
     ensures part { IsPart P.tells (λ cat after. with_window true key.now container.now cat ≡ Ok after)
         (λ refusal cat. with_window true key.now container.now cat ≡ Err refusal) result copies.new.charges
         (seen_on copies.old (P.contents pages.old)) (seen_on copies.new (P.contents pages.new)) }
@@ -115,7 +127,7 @@ fn make_window<P: Pages>(
     let _container = container.as_slice();
     let mut said = Reply::new(alloc);
     let decided = new_irregular(&copies.defs, key, container);
-    let effect = redefine(alloc, pages, Kind::Series, decided, &mut said)?;
+    let effect = redefine(pages, page, Kind::Series, decided, &mut said)?;
     copies.take(alloc, effect)?;
     Ok(())
 }
@@ -132,7 +144,7 @@ pub(crate) fn put_in_window<P: Pages>(
     out: &mut Reply,
 ) -> Result<(), Stop>
     requires seen { IsSeen P.tells (seen_on copies.old (P.contents pages.old)) }
-    requires charged { AreCharges copies.old.charges copies.old.defs.definitions copies.old.space }
+    requires charged { AreCharges copies.old.charges copies.old.defs.value.definitions copies.old.space }
     requires empty { out.old ≡ [] }
     ensures part { IsPart P.tells (λ cat after. put_no_dups key.now stamp values.now cat ≡ Ok (out.new, after))
         (λ refusal cat. put_no_dups key.now stamp values.now cat ≡ Err refusal) result copies.new.charges

@@ -107,8 +107,8 @@ fn put_on_copies<P: Pages>(
 {
     let mut copies = Copies::of(alloc, defs, space)?;
     let (plan, key, container) = (&put.planned.plan, &put.key, put.planned.container);
-    drop_windows(alloc, pages, &mut copies, put.set, &plan.purge)?;
-    open_window(alloc, pages, &mut copies, plan.attach, key, container)?;
+    drop_windows(alloc, pages, page, &mut copies, put.set, &plan.purge)?;
+    open_window(alloc, pages, page, &mut copies, plan.attach, key, container)?;
     put_in_window(
         alloc,
         pages,
@@ -122,10 +122,11 @@ fn put_on_copies<P: Pages>(
     Ok(copies.whole())
 }
 
-/// Drops a set: its windows and its control, and says how many windows they were.
+/// Drops a set: its windows and its control, and says how many windows they were. `page` is room to read one.
 pub fn rolling_drop<P: Pages>(
     alloc: Global,
     pages: &mut P,
+    page: &mut Page,
     defs: &Defs,
     space: &Space,
     set: &Key,
@@ -140,13 +141,14 @@ pub fn rolling_drop<P: Pages>(
 {
     let planned = plan_drop_of(alloc, pages, defs, space, set)?;
     say_count(out, planned.windows.len() as u64)?;
-    drop_on_copies(alloc, pages, defs, space, set, &planned)
+    drop_on_copies(alloc, pages, page, defs, space, set, &planned)
 }
 
 // Drops all of them on copies, which are what is in memory then.
 fn drop_on_copies<P: Pages>(
     alloc: Global,
     pages: &mut P,
+    page: &mut Page,
     defs: &Defs,
     space: &Space,
     set: &Key,
@@ -166,7 +168,7 @@ fn drop_on_copies<P: Pages>(
     ensures undisturbed { P.undisturbed pages.old pages.new }
 {
     let mut copies = Copies::of(alloc, defs, space)?;
-    drop_windows(alloc, pages, &mut copies, set, &planned.windows)?;
-    drop_if_there(alloc, pages, &mut copies, &planned.control)?;
+    drop_windows(alloc, pages, page, &mut copies, set, &planned.windows)?;
+    drop_if_there(alloc, pages, page, &mut copies, &planned.control)?;
     Ok(copies.whole())
 }

@@ -8,17 +8,16 @@ ghost use Rattle.ts_slots.specs.Writing.{SlotWritten, HeaderWritten};
 
 use crate::header::write_header;
 use crate::slot::write_def;
-use std::alloc::Global;
 use ts_base::StoreFault;
 use ts_layout::{byte_of_slot, page_of_slot, slot_size};
 use ts_model::{Def, Kind};
 use ts_page::{Page, Pages};
 
 /// Writes a definition over its slot, or zeros. Every other slot and every other page stays; after an error all pages
-/// stay.
+/// stay. `page` is room to read one.
 pub fn write_slot<P: Pages>(
-    alloc: Global,
     pages: &mut P,
+    page: &mut Page,
     kind: Kind,
     slot: u16,
     def: Option<&Def>,
@@ -31,11 +30,10 @@ pub fn write_slot<P: Pages>(
     ensures bytes { (P.contents pages.new).change_bytes ≤ (P.contents pages.old).change_bytes + image_entry_size }
     ensures undisturbed { P.undisturbed pages.old pages.new }
 {
-    let mut page = Page::zero();
     let number = page_of_slot(kind, slot);
-    pages.get(number, &mut page)?;
-    put_slot(kind, slot, def, &mut page);
-    pages.put(number, &page)
+    pages.get(number, page)?;
+    put_slot(kind, slot, def, page);
+    pages.put(number, page)
 }
 
 /// Writes the header of a volume with so many element pages, in a format. Every other page stays; after an error all
