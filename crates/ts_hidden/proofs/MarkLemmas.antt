@@ -1,9 +1,14 @@
 -- Marks on keys.
-use Rattle.std.proofs.Common.{◌≡◌, ℕ, Bool, true, false, ◌||◌, Option, Some, None, List, [], ◌∷◌, ◌++◌, refl, sym, ap, ◌∙◌}
+use Rattle.std.proofs.Common.{◌≡◌, ℕ, Bool, true, false, ◌||◌, Option, Some, None, List, [], ◌∷◌, map, refl, sym, ap, ◌∙◌}
+use Rattle.std.specs.declared.cmp.Ordering.{Ordering}
+use Rattle.std.specs.declared.cmp.Ordering.TheVariants.{Less, Equal, Greater}
+use Rattle.std.specs.BTreeSet.{insert_key}
+use Rattle.std.specs.Cmp.Lexicographic.{slice_cmp}
 use Rattle.std.specs.List.{list_any}
 use Rattle.std.specs.Option.{option_map}
+use Rattle.std.specs.Ordering.{nat_cmp, is_eq, match_ordering}
 use Rattle.std.specs.Prelude.{bytes_eq}
-use Rattle.std.proofs.lemmas.List.Folds.{list_any-append}
+use Rattle.std.proofs.lemmas.Map.Text.{is_eq-slice_cmp}
 use Rattle.std.proofs.lemmas.Slice.Eq.{bytes_eq-Decides}
 use Rattle.ts_model.specs.declared.def.Def.{Def}
 use Rattle.ts_model.specs.declared.kind.Kind.TheVariants as kinds
@@ -15,19 +20,53 @@ or_true : (a : Bool) → (a || true) ≡ true
 or_true true = refl
 or_true false = refl
 
-or_left : (a b : Bool) → (a || b) ≡ false → a ≡ false
-or_left true b none = absurd (cc)
-or_left false b none = refl
+or_first : (a b : Bool) → a ≡ true → (a || b) ≡ true
+or_first true b is = refl
+or_first false b is = absurd (cc)
 
--- what was marked last is marked, and so is what was before
-pub marked_last : (key : List ℕ) (marks : List (List ℕ)) → is_marked key (marks ++ key ∷ []) ≡ true
-marked_last key marks =
-    list_any-append (bytes_eq key) marks (key ∷ [])
-    ∙ ap (λ (b : Bool). list_any (bytes_eq key) marks || (b || false)) ((bytes_eq-Decides key key).1 refl) ∙ or_true (list_any (bytes_eq key) marks)
+or_both : (a b : Bool) → (a || b) ≡ false → (a ≡ false) × (b ≡ false)
+or_both true b none = absurd (cc)
+or_both false b none = (refl, none)
 
-pub marked_before : (key : List ℕ) (marks : List (List ℕ)) → Include (marks ++ key ∷ []) marks
-marked_before key marks other none =
-    or_left (list_any (bytes_eq other) marks) (list_any (bytes_eq other) (key ∷ [])) (sym (list_any-append (bytes_eq other) marks (key ∷ [])) ∙ none)
+neither : (a b : Bool) → a ≡ false → b ≡ false → (a || b) ≡ false
+neither true b first second = absurd (cc)
+neither false b first second = second
+
+-- keys in the order of their bytes
+module _ {K : Type 0} (bytes : K → List ℕ) where
+  abbrev pub by_bytes : K → K → Ordering
+  by_bytes x y = slice_cmp nat_cmp (bytes x) (bytes y)
+
+  -- a search finds what is marked
+  pub found : (key : List ℕ) (ks : List K) → list_any (λ k. is_eq (slice_cmp nat_cmp key (bytes k))) ks ≡ is_marked key (map bytes ks)
+  found key [] = refl
+  found key (x ∷ xs) =
+      ap (λ (b : Bool). b || list_any (λ k. is_eq (slice_cmp nat_cmp key (bytes k))) xs) (is_eq-slice_cmp key (bytes x))
+      ∙ ap (λ (b : Bool). bytes_eq key (bytes x) || b) (found key xs)
+
+  -- what is put in is marked, and so is what was before
+  pub marked_in : (key : K) (ks : List K) → is_marked (bytes key) (map bytes (insert_key by_bytes ks key)) ≡ true
+  marked_in key [] = or_first (bytes_eq (bytes key) (bytes key)) false ((bytes_eq-Decides (bytes key) (bytes key)).1 refl)
+  marked_in key (x ∷ xs) = by (by_bytes key x) refl (marked_in key xs)
+    where
+      by : (o : Ordering) → by_bytes key x ≡ o → is_marked (bytes key) (map bytes (insert_key by_bytes xs key)) ≡ true
+          → is_marked (bytes key) (map bytes (match_ordering o (key ∷ x ∷ xs) (x ∷ xs) (x ∷ insert_key by_bytes xs key))) ≡ true
+      by Less is rest = or_first _ (is_marked (bytes key) (map bytes (x ∷ xs))) ((bytes_eq-Decides (bytes key) (bytes key)).1 refl)
+      by Equal is rest = or_first _ (is_marked (bytes key) (map bytes xs)) (sym (is_eq-slice_cmp (bytes key) (bytes x)) ∙ ap is_eq is)
+      by Greater is rest = ap (λ (b : Bool). bytes_eq (bytes key) (bytes x) || b) rest ∙ or_true (bytes_eq (bytes key) (bytes x))
+
+  pub marked_before : (key : K) (ks : List K) → Include (map bytes (insert_key by_bytes ks key)) (map bytes ks)
+  marked_before key [] other none = refl
+  marked_before key (x ∷ xs) other none = by (by_bytes key x) (marked_before key xs other) none
+    where
+      by : (o : Ordering) → (is_marked other (map bytes (insert_key by_bytes xs key)) ≡ false → is_marked other (map bytes xs) ≡ false)
+          → is_marked other (map bytes (match_ordering o (key ∷ x ∷ xs) (x ∷ xs) (x ∷ insert_key by_bytes xs key))) ≡ false
+          → is_marked other (map bytes (x ∷ xs)) ≡ false
+      by Less rest none = (or_both (bytes_eq other (bytes key)) (is_marked other (map bytes (x ∷ xs))) none).1
+      by Equal rest none = none
+      by Greater rest none =
+          let each = or_both (bytes_eq other (bytes x)) (is_marked other (map bytes (insert_key by_bytes xs key))) none in
+          neither (bytes_eq other (bytes x)) (is_marked other (map bytes xs)) each.0 (rest each.1)
 
 pub all_included : (marks : List (List ℕ)) → Include marks marks
 all_included marks key none = none

@@ -4,24 +4,26 @@ ghost use Rattle.ts_model.specs.Definitions.{SeriesDef, at_slot, series_slots};
 ghost use Rattle.ts_hidden.specs.Marks.{is_marked, Include, IsNoted, IsNowhere, IsUnmarked, AreOfSlots};
 
 use std::alloc::{AllocError, Global};
+use std::collections::BTreeSet;
 use std::marker::Model;
 use ts_base::Key;
 use ts_command::Command;
 use ts_layout::names_stand_in_slots;
 use ts_model::{Def, Defs, Kind};
 
-/// The keys of series that may have hidden elements.
+/// The keys of series that may have hidden elements, as bytes in order.
 #[derive(Drop)]
 pub struct Marks {
-    keys: Vec<Key>,
+    alloc: Global,
+    keys: BTreeSet<Vec<u8>>,
 }
 
 impl Model for Marks {
-    ghost use Rattle.std.specs.Prelude.{ℕ, List};
+    ghost use Rattle.std.specs.Prelude.{ℕ, List, map};
 
     ghost Value = { List (List ℕ) };
 
-    ghost view = { λ m. m.keys.items };
+    ghost view = { λ m. map (λ key. key.items) m.keys.keys };
 }
 
 impl Marks {
@@ -30,7 +32,8 @@ impl Marks {
         ensures { IfOk result (AreOfSlots defs.now.definitions slots.now) }
     {
         let mut marks = Marks {
-            keys: Vec::new(alloc),
+            alloc,
+            keys: BTreeSet::new(alloc),
         };
         for slot in 0..Kind::Series.limit() {
             if has_mark(slots, slot) {
@@ -44,9 +47,7 @@ impl Marks {
     pub fn has(&self, key: &Key) -> bool
         ensures { result ≡ is_marked key.now self.now }
     {
-        self.keys
-            .iter()
-            .any(|marked| key.as_slice() == marked.as_slice())
+        self.keys.contains(key.as_slice())
     }
 
     /// Marks a series.
@@ -57,8 +58,8 @@ impl Marks {
         if self.has(key) {
             return Ok(());
         }
-        let key = key.copy()?;
-        self.keys.push(key)?;
+        let key = Vec::from_slice(self.alloc, key.as_slice())?;
+        self.keys.insert(key)?;
         Ok(())
     }
 
