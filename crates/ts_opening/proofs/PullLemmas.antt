@@ -2,6 +2,15 @@
 use Rattle.std.proofs.Common.{◌≡◌, ℕ, ◌+◌, ◌-◌, ◌^◌, ◌<◌, ◌≤◌, ◌==◌, ◌||◌, Bool, true, false, min, List, [], ◌++◌, take, refl, sym, ◌∙◌, ap, arith, append_assoc}
 use Rattle.std.proofs.lemmas.Bool.{ne_eqb}
 use Rattle.ts_disk.specs.Device.{Input}
+use Rattle.ts_opening.specs.Opening.{HasEnded}
+
+or_true : (b : Bool) → (b || true) ≡ true
+or_true true = refl
+or_true false = refl
+
+-- a pull that answers 0 is the end
+pub end_told : (second third : Input) (n : ℕ) → n ≡ 0 → third.ended ≡ (second.ended || (n == 0)) → HasEnded third
+end_told second third n zero ended = ended ∙ ap (λ (k : ℕ). second.ended || (k == 0)) zero ∙ or_true second.ended
 
 -- one pull more
 pub pulls_on : (a b : ℕ) → b ≡ min (a + 1) (2 ^ 64 - 1) → b ≤ a + 1

@@ -32,13 +32,17 @@ pub record OpensStore (tells : Bool) (status : ℕ) (v w : Device) : Type 0 wher
 
 -- What is taken of a source, and a run of what its bytes ask for.
 
+-- a pull of the source has answered its end
+abbrev pub HasEnded : Input → Type 0
+HasEnded j = IsTrue j.ended
+
 -- The bytes that were taken from a source, and whether it answered its end: then nothing is left, the limit was kept,
 -- and with these bytes the status may be that of an end.
 pub record Took (limit : ℕ) (IsEnd : List ℕ → ℕ → Type 0) (status : ℕ) (i j : Input) : Type 0 where
   pub taken : List ℕ
   pub ended : Bool
   pub cut : i.left ≡ taken ++ j.left
-  pub end : IsTrue ended → (j.left ≡ []) × (length taken ≤ limit) × IsEnd taken status
+  pub end : IsTrue ended → HasEnded j × (j.left ≡ []) × (length taken ≤ limit) × IsEnd taken status
 
 -- the bytes that were taken are more than the limit
 pub record TookTooMuch (limit : ℕ) (i j : Input) : Type 0 where

@@ -51,6 +51,7 @@ unpulled tells told status v w i store which said say_faults first unwritten = r
   no_pull_fault = λ no. refl;
   pulls = λ s. omega arith;
   pulls_most = omega arith;
+  ended = λ zero. absurd (is_unopened status 0 which zero (inl (omega arith)));
   once = λ live. refl;
   complete = λ t s cat means short not_disk not_output not_pull. elim which [
     | inl five ↦ absurd (not_disk (store.disk five))
@@ -102,7 +103,7 @@ module _ (tells told : Bool) (engine : Engine) (v y w : Device) (i j : Input) (s
   opened = record {
     store = opened_store tells engine status v y w started (λ six. neither (inl six)) ran.disk ran.no_fault ran.size ran.faults;
     fair = fair_from;
-    all = λ zero t s cat means. let done = ran.all zero t s (resting cat) (started.at t cat means) in record { ended = done.ended; done = done_from cat _ done.done };
+    all = λ zero t s cat means. let done = ran.all zero t s (resting cat) (started.at t cat means) in record { ended = done.ended; none_left = done.none_left; done = done_from cat _ done.done };
     so_far = λ which t s cat means. let done = ran.so_far which t s (resting cat) (started.at t cat means) in record { taken = done.taken; cut = done.cut; done = done_from cat _ done.done };
     pull = ran.pull;
     output = λ four. rose_on v.say_faults y.say_faults w.say_faults (omega (arith, started.others.say_faults)) (ran.output four);
@@ -118,6 +119,7 @@ module _ (tells told : Bool) (engine : Engine) (v y w : Device) (i j : Input) (s
     no_pull_fault = ran.no_pull_fault;
     pulls = ran.pulls;
     pulls_most = ran.pulls_most;
+    ended = ran.ended;
     once = ran.once;
     complete = λ t s cat means short not_disk not_output not_pull. elim ran.statuses [
       | inl zero ↦ inl zero

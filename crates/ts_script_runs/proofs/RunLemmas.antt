@@ -12,7 +12,7 @@ use Rattle.ts_carriers.proofs.CallerLemmas.{never}
 use Rattle.ts_carriers.specs.Run.{Answered, Ran, status_of, status_of_end}
 use Rattle.ts_replies.specs.Said.{SaysFairly, AllDone}
 use Rattle.ts_replies.specs.Acknowledged.{IsGoodMoment}
-use Rattle.ts_opening.specs.Opening.{Took}
+use Rattle.ts_opening.specs.Opening.{HasEnded, Took}
 
 -- what bytes ask for that keep the limit
 in_limit : (taken : List ℕ) → length taken ≤ 268435456 → requests taken ≡ asked_in taken
@@ -77,6 +77,7 @@ module _ (tells told : Bool) (e f : Kept) (v w : Device) (i j : Input) (faults :
     no_pull_fault = λ no. absurd (no refl);
     pulls = λ s. pulls_of taken (cut s) (omega arith);
     pulls_most = pulls;
+    ended = λ zero. absurd (omega arith);
     once = once;
   }
 
@@ -104,6 +105,7 @@ module _ (tells told : Bool) (e f : Kept) (v w : Device) (i j : Input) (faults :
         no_pull_fault = λ no. same_pulls;
         pulls = λ s. pulls_of whole (cut s) (omega (arith, length-append taken piece));
         pulls_most = pulls;
+        ended = λ zero. absurd (omega arith);
         once = once;
       }
 
@@ -130,6 +132,7 @@ module _ (tells told : Bool) (e f : Kept) (v w : Device) (i j : Input) (faults :
       no_pull_fault = λ no. same_pulls;
       pulls = λ s. pulls_of taken (cut s) (omega arith);
       pulls_most = pulls;
+      ended = λ zero. absurd (omega arith);
       once = once;
     }
     failed Output run = record {
@@ -152,13 +155,14 @@ module _ (tells told : Bool) (e f : Kept) (v w : Device) (i j : Input) (faults :
       no_pull_fault = λ no. same_pulls;
       pulls = λ s. pulls_of taken (cut s) (omega arith);
       pulls_most = pulls;
+      ended = λ zero. absurd (omega arith);
       once = once;
     }
 
     -- the script has ended
-    module _ (none : IsTrue told → j.left ≡ []) where
+    module _ (ends : HasEnded j) (none : IsTrue told → j.left ≡ []) where
       abbrev took_all : (status : ℕ) → (status ≡ 0) ⊎ (status ≡ 4) → IsTrue told → Took most_script IsScriptEnd status i j
-      took_all status last s = record { taken = taken; ended = true; cut = cut s; end = λ yes. (none s, short, last) }
+      took_all status last s = record { taken = taken; ended = true; cut = cut s; end = λ yes. (ends, none s, short, last) }
 
       whole : IsTrue told → i.left ≡ taken
       whole s = cut s ∙ ap (λ (l : List ℕ). taken ++ l) (none s) ∙ append-nil taken
@@ -170,7 +174,8 @@ module _ (tells told : Bool) (e f : Kept) (v w : Device) (i j : Input) (faults :
       ended (Ok value) output run = record {
         fair = ended_fair 0 (inl refl) (Ok value) run;
         all = λ zero t s state at. record {
-          ended = none s;
+          ended = ends;
+          none_left = none s;
           done = done tells state (requests taken ++ last_request taken) (requests i.left ++ last_request i.left) f v w (ap (λ (l : List ℕ). requests l ++ last_request l) (sym (whole s))) (run.answered t state at);
         };
         so_far = λ which. absurd (⊎_elim (λ (is : 0 ≡ 3). omega arith) (λ (is : 0 ≡ 8). omega arith) which);
@@ -190,6 +195,7 @@ module _ (tells told : Bool) (e f : Kept) (v w : Device) (i j : Input) (faults :
         no_pull_fault = λ no. same_pulls;
         pulls = λ s. pulls_of taken (cut s) (omega arith);
         pulls_most = pulls;
+        ended = λ zero. ends;
         once = once;
       }
       ended (Err Disk) output run = absurd (let clash : ◌≡◌ {A = Result Unit RunFault} (Err Disk) (Err Output) = output refl in cc)
@@ -213,5 +219,6 @@ module _ (tells told : Bool) (e f : Kept) (v w : Device) (i j : Input) (faults :
         no_pull_fault = λ no. same_pulls;
         pulls = λ s. pulls_of taken (cut s) (omega arith);
         pulls_most = pulls;
+        ended = λ zero. absurd (omega arith);
         once = once;
       }

@@ -12,7 +12,7 @@ use Rattle.ts_replies.specs.Said.{SaysFairly, AllDone}
 use Rattle.ts_answer.specs.Answer.{State, resting, committed, run_answer, stand_in}
 use Rattle.ts_carriers.specs.Run.{Carrier}
 use Rattle.ts_opening.specs.Engine.{Kept, IsReady, IsAt}
-use Rattle.ts_opening.specs.Opening.{OpensStore, Took, TookTooMuch, TookEnough, RanFrom}
+use Rattle.ts_opening.specs.Opening.{OpensStore, HasEnded, Took, TookTooMuch, TookEnough, RanFrom}
 
 -- A run over an engine: what a script asks for, and how it is answered.
 
@@ -57,10 +57,11 @@ most_script = 268435456
 abbrev pub IsScriptEnd : List ℕ → ℕ → Type 0
 IsScriptEnd taken status = (status ≡ 0) ⊎ (status ≡ 4)
 
--- Everything was taken up to the end of the source, and every request of the script is answered. A transaction that is
--- open behind them is given up.
+-- Everything was taken up to the end of the source, which it has answered, and every request of the script is answered.
+-- A transaction that is open behind them is given up.
 pub record DoneToEnd (state : State) (v w : Device) (i j : Input) : Type 0 where
-  pub ended : j.left ≡ []
+  pub ended : HasEnded j
+  pub none_left : j.left ≡ []
   pub done : AllDone script state (requests i.left ++ last_request i.left) v w
 
 -- every request is answered of those items that end within the bytes taken, up to the limit
@@ -100,6 +101,7 @@ pub record OpenedRan (tells told : Bool) (e : Kept) (status : ℕ) (v w : Device
   pub no_pull_fault : status ≢ 3 → j.pull_faults ≡ i.pull_faults
   pub pulls : IsTrue told → j.pulls + length j.left ≤ i.pulls + length i.left + 1
   pub pulls_most : j.pulls ≤ i.pulls + 268435457
+  pub ended : status ≡ 0 → HasEnded j
   pub once : i.ended ≡ false → j.past_end ≡ i.past_end
 
 -- What was said and what a stop leaves, over a volume that means this catalogue at the entry: with no transaction, the
@@ -139,7 +141,8 @@ pub record ScriptRan (tells told : Bool) (status : ℕ) (v w : Device) (i j : In
   -- and one more
   pub pulls : IsTrue told → j.pulls + length j.left ≤ i.pulls + length i.left + 1
   pub pulls_most : j.pulls ≤ i.pulls + 268435457
-  -- of no source, told or not, is more asked once it answered its end in this run
+  -- each source, told or not, has answered its end at 0, and of none is more asked once it did so in this run
+  pub ended : status ≡ 0 → HasEnded j
   pub once : i.ended ≡ false → j.past_end ≡ i.past_end
   -- a volume that means a catalogue and a source that ends within the limit: unless a count rose, the script is carried
   -- out whole, or there was no memory to open the volume

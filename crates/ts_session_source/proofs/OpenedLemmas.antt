@@ -143,7 +143,8 @@ module _ (tells told : Bool) (seed : ℕ) (engine : Engine) (v y w : Device) (i 
             source = taken_shows told i j text takes status ends;
             fair = λ t s cat means. sessions_from seed cat status v w i j means (all_taken told i j text takes status ends s) (fair_from t cat means) (moments_from t cat means);
             all = λ zero t s cat means. record {
-              ended = (takes.whole s).1;
+              ended = takes.ended;
+              none_left = (takes.whole s).1;
               few = subst (λ (l : List ℕ). length (sections l) ≤ 16) (sym (whole_is told i j text takes s)) few;
               each = each_turn seed i.left;
               done = subst (λ (l : List ℕ). AllDone protocol (begun cat l) (turns_of seed l) v w) (sym (whole_is told i j text takes s)) (done_from t cat means zero);

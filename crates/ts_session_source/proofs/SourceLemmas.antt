@@ -31,6 +31,7 @@ unpulled told status i which = record {
   ];
   pulls = λ s. omega arith;
   pulls_most = omega arith;
+  ended = λ end. absurd (omega (arith, which, end));
   once = λ live. refl;
 }
 
@@ -67,6 +68,7 @@ module _ (told : Bool) (i j : Input) where
     many = λ s short many. inl refl;
     pulls = takes.pulls;
     pulls_most = takes.pulls_most;
+    ended = λ end. absurd (omega (arith, end));
     once = takes.once;
   }
   untaken TooLong takes = record {
@@ -79,6 +81,7 @@ module _ (told : Bool) (i j : Input) where
     many = λ s short many. absurd (not_short (takes.too_long refl s) short);
     pulls = takes.pulls;
     pulls_most = takes.pulls_most;
+    ended = λ end. absurd (omega (arith, end));
     once = takes.once;
   }
   untaken (Memory error) takes = record {
@@ -91,6 +94,7 @@ module _ (told : Bool) (i j : Input) where
     many = λ s short many. inr (inr (inr (inl refl)));
     pulls = takes.pulls;
     pulls_most = takes.pulls_most;
+    ended = λ end. absurd (omega (arith, end));
     once = takes.once;
   }
 
@@ -112,7 +116,7 @@ module _ (told : Bool) (i j : Input) where
     cut_whole s = (takes.whole s).0 ∙ sym (append-nil text) ∙ ap (λ (l : List ℕ). text ++ l) (sym (takes.whole s).1)
 
     abbrev pub all_taken : (status : ℕ) → IsTextEnd text status → IsTrue told → Took most_text IsTextEnd status i j
-    all_taken status ends s = record { taken = text; ended = true; cut = cut_whole s; end = λ yes. ((takes.whole s).1, takes.short, ends) }
+    all_taken status ends s = record { taken = text; ended = true; cut = cut_whole s; end = λ yes. (takes.ended, (takes.whole s).1, takes.short, ends) }
 
     pub taken_shows : (status : ℕ) → IsTextEnd text status → ShowsSource told status i j
     taken_shows status ends = record {
@@ -122,7 +126,8 @@ module _ (told : Bool) (i j : Input) where
       too_long = λ eight. absurd (omega (arith, ends, eight));
       short = λ s. inr (record { taken = text; cut = cut_whole s; short = takes.short });
       too_many = λ nine s. record {
-        ended = (takes.whole s).1;
+        ended = takes.ended;
+        none_left = (takes.whole s).1;
         short = (let size = ap length (whole_is s) in let kept = takes.short in omega (arith, size, kept));
         many = (let size = ap (λ (l : List ℕ). length (sections l)) (whole_is s) in omega (arith, size, ends, nine));
       };
@@ -134,5 +139,6 @@ module _ (told : Bool) (i j : Input) where
           ];
       pulls = takes.pulls;
       pulls_most = takes.pulls_most;
+      ended = λ end. takes.ended;
       once = takes.once;
     }

@@ -3,7 +3,7 @@ use Rattle.std.proofs.Common.{◌≡◌, inl, inr, ℕ, ◌+◌, ◌<◌, ◌≤
 use Rattle.std.proofs.lemmas.List.{append-nil, length-take-le}
 use Rattle.ts_disk.specs.Device.{Input, Pulled}
 use Rattle.ts_carriers.proofs.CallerLemmas.{rose_on}
-use Rattle.ts_opening.proofs.CallerLemmas.{IsOnce, nothing_left, once_more, once_now, once_pulled, pulls_on, taken_on}
+use Rattle.ts_opening.proofs.CallerLemmas.{IsOnce, end_told, nothing_left, once_more, once_now, once_pulled, pulls_on, taken_on}
 use Rattle.ts_session_source.specs.declared.fault.TextFault.TheVariants.{Pull, TooLong, Memory}
 use Rattle.ts_session_source.specs.Text.{TakesText}
 
@@ -32,6 +32,7 @@ module _ {E : Type 0} (told : Bool) (text : List ℕ) (i x j : Input) (so_far : 
       record {
         short = tt;
         whole = tt;
+        ended = tt;
         pull = λ is. rose_on i.pull_faults x.pull_faults j.pull_faults (let same = so_far.faults in omega (arith, same)) (pulled.cause refl);
         no_pull_fault = λ no. absurd (no refl);
         pull_faults = (let same = so_far.faults in let more = pulled.pull_faults in omega (arith, same, more));
@@ -54,6 +55,7 @@ module _ {E : Type 0} (told : Bool) (text : List ℕ) (i x j : Input) (so_far : 
         record {
           short = so_far.within;
           whole = λ s. (whole s, none s);
+          ended = end_told x j n zero pulled.ended;
           pull = λ is. absurd (cc);
           no_pull_fault = λ no. pulled.no_fault refl ∙ so_far.faults;
           pull_faults = (let same = so_far.faults in let more = pulled.pull_faults in omega (arith, same, more));
@@ -86,6 +88,7 @@ module _ {E : Type 0} (told : Bool) (text : List ℕ) (i x j : Input) (so_far : 
       overlong full = record {
         short = tt;
         whole = tt;
+        ended = tt;
         pull = λ is. absurd (cc);
         no_pull_fault = λ no. pulled.no_fault refl ∙ so_far.faults;
         pull_faults = (let same = so_far.faults in let more = pulled.pull_faults in omega (arith, same, more));
@@ -112,6 +115,7 @@ module _ {E : Type 0} (told : Bool) (text : List ℕ) (i x j : Input) (so_far : 
         wanting error = record {
           short = tt;
           whole = tt;
+          ended = tt;
           pull = λ is. absurd (cc);
           no_pull_fault = λ no. pulled.no_fault refl ∙ so_far.faults;
           pull_faults = (let same = so_far.faults in let more = pulled.pull_faults in omega (arith, same, more));

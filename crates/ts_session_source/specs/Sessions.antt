@@ -13,7 +13,7 @@ use Rattle.ts_sessions.specs.Turns.{requests_of, turns}
 use Rattle.ts_volume.specs.Volume.{MeansCatalogue}
 use Rattle.ts_opening.specs.Engine.{StillMeans}
 use Rattle.ts_replies.specs.Said.{AllDone}
-use Rattle.ts_opening.specs.Opening.{OpensStore, TookTooMuch, TookEnough, RanFrom}
+use Rattle.ts_opening.specs.Opening.{OpensStore, HasEnded, TookTooMuch, TookEnough, RanFrom}
 use Rattle.ts_session_runs.specs.Carrier.{sessions as protocol}
 use Rattle.ts_session_source.specs.Text.{most_text}
 
@@ -40,17 +40,19 @@ IsTextEnd taken status = (status ≡ 7)
 abbrev pub SessionsFrom : ℕ → Catalogue → ℕ → Device → Device → Input → Input → Type 0
 SessionsFrom seed cat status v w i j = RanFrom protocol most_text IsTextEnd (asked_of seed) (begun cat) status v w i j
 
--- Everything was taken up to the end of the source, each item of its sections has its turn, and every turn is answered.
--- A transaction that is open behind them is given up.
+-- Everything was taken up to the end of the source, which it has answered, each item of its sections has its turn, and
+-- every turn is answered. A transaction that is open behind them is given up.
 pub record SessionsDone (seed : ℕ) (cat : Catalogue) (v w : Device) (i j : Input) : Type 0 where
-  pub ended : j.left ≡ []
+  pub ended : HasEnded j
+  pub none_left : j.left ≡ []
   pub few : length (sections i.left) ≤ 16
   pub each : length (turns_of seed i.left) ≡ total (map requests_of (sections i.left))
   pub done : AllDone protocol (begun cat i.left) (turns_of seed i.left) v w
 
 -- the source was taken to its end, within the limit, and has more than 16 sections
 pub record EndsWithMany (i j : Input) : Type 0 where
-  pub ended : j.left ≡ []
+  pub ended : HasEnded j
+  pub none_left : j.left ≡ []
   pub short : length i.left ≤ most_text
   pub many : 16 < length (sections i.left)
 
@@ -76,7 +78,8 @@ pub record ShowsSource (told : Bool) (status : ℕ) (i j : Input) : Type 0 where
   -- and one more
   pub pulls : IsTrue told → j.pulls + length j.left ≤ i.pulls + length i.left + 1
   pub pulls_most : j.pulls ≤ i.pulls + 1048577
-  -- of no source, told or not, is more asked once it answered its end in this run
+  -- each source, told or not, has answered its end at 0 and 9, and of none is more asked once it did so in this run
+  pub ended : (status ≡ 0) ⊎ (status ≡ 9) → HasEnded j
   pub once : i.ended ≡ false → j.past_end ≡ i.past_end
 
 -- What `sessions` does.

@@ -1,7 +1,7 @@
 -- The whole text of a source, as it is taken.
 use Rattle.std.specs.Prelude.{◌≡◌, ◌⊎◌, ℕ, ◌+◌, ◌≤◌, Bool, false, IsTrue, List, [], length, Result, Err, IfOk}
 use Rattle.ts_disk.specs.Device.{Rose, Input}
-use Rattle.ts_opening.specs.Opening.{TookTooMuch, TookEnough}
+use Rattle.ts_opening.specs.Opening.{HasEnded, TookTooMuch, TookEnough}
 use Rattle.ts_session_source.specs.declared.fault.TextFault.{TextFault}
 use Rattle.ts_session_source.specs.declared.fault.TextFault.TheVariants.{Pull, TooLong}
 
@@ -11,9 +11,10 @@ most_text = 1048576
 
 -- The text was taken, or not.
 pub record TakesText (told : Bool) (result : Result (List ℕ) TextFault) (i j : Input) : Type 0 where
-  -- it is all that was left, up to the end
+  -- it is all that was left, up to the end, which each source, told or not, has answered
   pub short : IfOk result (λ text. length text ≤ most_text)
   pub whole : IfOk result (λ text. IsTrue told → (i.left ≡ text) × (j.left ≡ []))
+  pub ended : IfOk result (λ text. HasEnded j)
   pub pull : result ≡ Err Pull → Rose i.pull_faults j.pull_faults
   pub no_pull_fault : ¬ (result ≡ Err Pull) → j.pull_faults ≡ i.pull_faults
   pub pull_faults : i.pull_faults ≤ j.pull_faults

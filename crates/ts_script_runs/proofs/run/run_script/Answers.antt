@@ -7,7 +7,7 @@ use Rattle.ts_carriers.proofs.CallerLemmas.{rose_on}
 use Rattle.ts_script_runs.proofs.ItemLemmas.{steady}
 use Rattle.ts_carriers.proofs.CallerLemmas.{ran_none}
 use Rattle.ts_script_runs.proofs.FeedLemmas.{ran_behind, ran_to_end}
-use Rattle.ts_opening.proofs.CallerLemmas.{IsOnce, once_now, once_pulled, once_more, pulls_on, taken_on, taken_all, nothing_left}
+use Rattle.ts_opening.proofs.CallerLemmas.{IsOnce, end_told, once_now, once_pulled, once_more, pulls_on, taken_on, taken_all, nothing_left}
 use Rattle.ts_script_runs.proofs.RunLemmas.{stopped, overlong, failed, ended}
 use Rattle.ts_script_runs.proofs.run.run_script.Goals as goal
 
@@ -55,6 +55,7 @@ returns-in-Ok-eq0 g c =
           (ended tells told e h v w i j (omega (arith, inv.faults, pulled.pull_faults)) (omega (arith, inv.pulls, inv.within, pulls_on x.pulls j.pulls pulled.pulls)) inv.run.0 (omega (arith, inv.pulls, inv.run.1, pulls_on x.pulls j.pulls pulled.pulls)) (once_pulled i x j inv.live pulled.past_end) (omega (arith, inv.run.1, inv.within))
           (λ s. taken_all i.left x.left j.left inv.run.0 (inv.run.3 s) (pulled.end s c.in-Ok-eq0.field-0-test) (nothing_left x.left j.left c.pull_front.new.buffer c.in-Ok-eq0.field-0 c.in-Ok-eq0.field-0-test (pulled.end s c.in-Ok-eq0.field-0-test) (pulled.moved s)))
           (pulled.no_fault refl ∙ inv.faults)
+          (end_told x j c.in-Ok-eq0.field-0 c.in-Ok-eq0.field-0-test pulled.ended)
           (λ s. nothing_left x.left j.left c.pull_front.new.buffer c.in-Ok-eq0.field-0 c.in-Ok-eq0.field-0-test (pulled.end s c.in-Ok-eq0.field-0-test) (pulled.moved s))
           c.carry_out_end.result c.carry_out_end.ensures.output run);
     }
