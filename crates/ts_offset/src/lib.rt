@@ -3,10 +3,11 @@
 //! offset and stamp are inverse to each other on all on starts from the origin. What is counted is a walk from interval
 //! to interval (`specs/Grid`); the code counts whole rounds of the pattern by division and the rest by a binary search
 //! among its on runs (`specs/Spans`), within the intervals that exist and aren't before the calendar's start
-//! (`specs/Sums`); these sums are taken once for each counter. Stands on ts_calendar; knows nothing of elements. Read
-//! `specs/Grid.antt`, then `grid.rt` and `sums.rt`.
+//! (`specs/Sums`); these sums are taken once for each counter, and the counts of its origin once for each grid. Stands
+//! on ts_calendar; knows nothing of elements. Read `specs/Grid.antt`, then `grid.rt` and `sums.rt`.
 #![tactic(auto)]
 
+mod counted;
 mod counter;
 mod grid;
 mod onward;

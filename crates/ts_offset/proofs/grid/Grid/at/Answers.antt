@@ -7,15 +7,17 @@ use Rattle.ts_offset.proofs.grid.Grid.at.Goals as goal
 
 pub invariant_of-result : goal.invariant_of-result
 invariant_of-result c =
-    let plan = c.sums-sums.result.now.calendar in
-    let f = c.interval_around-first in
+    let x = c.sums-sums.result.now in
+    let plan = x.calendar in
+    let f = c.interval_around in
+    let n = c.counted-first in
     let w : IsOnStart plan c.args.origin = subst (λ p. IsOnStart p c.args.origin) (sym c.sums-sums.ensures) c.requires in
     let here = at-around plan f.result w.interval c.args.origin f.ensures.laid f.ensures.around w.start in
-    let k = to_z w64 (of_z w64 f.result) in
-    let same : k ≡ f.result = omega (arith, signed_casts, f.ensures.near) in
-    let there = here ∙ sym same in
+    let same : to_z w64 (of_z w64 f.result) ≡ f.result = omega (arith, signed_casts, f.ensures.near) in
+    let there : w.interval ≡ n.result.interval = here ∙ sym same ∙ sym n.ensures.interval in
     let start = ap (start_at plan) (sym there) ∙ w.start in (
-      first-at plan k c.args.origin f.ensures.laid (omega (arith, signed_casts, f.ensures.near), omega (arith, signed_casts, f.ensures.near)) start,
+      first-at plan n.result.interval c.args.origin f.ensures.laid n.ensures.counted.near start,
       start,
       ap (is_on plan) (sym there) ∙ w.on,
+      n.ensures.counted,
     )
