@@ -93,6 +93,26 @@ says "a statement outside of a transaction is a commit" 0 1 \
   "2 ok\n2 ok D03\n1 ok D04\n2 commit 1 / error 53 Conflict\n"
 leaves "a statement outside of a transaction is a commit" "$all_of_x" "D04 2 / ok 1"
 
+# It sees the store of its Begin, with its own statements.
+says "a transaction sees no commit behind its Begin" 0 1 \
+  "InsElem('x','D04',2);\n--session\nBegin; InsElem('y','D03',1); GetNelems('x'); Commit; GetNelems('x');\n" \
+  "2 ok\n2 ok D03\n1 ok D04\n2 ok 0\n2 ok 1\n2 ok 1\n"
+leaves "a transaction sees no commit behind its Begin" "$all_of_x" "D04 2 / ok 1"
+
+# The container is only named by what stands in the way, so that no commit is said.
+wants "a commit is refused by what was committed last: init" 0 "$ts" ten_pages.volume init 10
+answers "a commit is refused by what was committed last: two series" ten_pages.volume << 'ROWS'
+CreateRowType(rd, t datetime, v integer);TSContainerCreate(c1, rd, 8); -> ok / ok
+TSCreateIrr('x', c1);TSCreateIrr('y', c1); -> ok / ok
+ROWS
+answers "a commit is refused by what was committed last: a container" ten_pages.volume << 'ROWS'
+TSContainerCreate(c2, rd, 2); -> ok
+ROWS
+says "a commit is refused by what was committed last" 0 1 \
+  "TSCreateIrr('z', c2);\n--session\nBegin; TSContainerDestroy(c2); Commit;\n" \
+  "2 ok\n2 ok\n1 ok\n2 error 32 InUse\n" ten_pages.volume
+rm ten_pages.volume
+
 # marks COUNT: so many lines that end a section.
 marks() {
   for _number in $(seq "$1"); do printf -- '--session\\n'; done
@@ -103,6 +123,10 @@ says "no section has a statement" 0 1 "" ""
 says "sixteen empty sections" 0 1 "$(marks 15)" ""
 says "seventeen empty sections" 9 1 "$(marks 16)" ""
 leaves "seventeen empty sections" "$all_of_both" "ok 0 / ok 0"
+insertion="InsElem('x','2011-01-04 00:00:00',2);\n"
+says "seventeen sections begin none" 9 1 "$insertion$(marks 16)" ""
+leaves "seventeen sections begin none" "$all_of_x" "ok 0"
+says "seventeen sections begin none: sixteen do" 0 1 "$insertion$(marks 15)" "1 ok D04\n"
 says "seventeen sections, of which statements stand in two" 9 1 "InsElem('x','D03',1);\n$(marks 16)InsElem('x','D04',1);" ""
 leaves "seventeen sections, of which statements stand in two" "$all_of_both" "ok 0 / ok 0"
 says "the sixteenth section" 0 7 "$(marks 15)GetNelems('x');" "16 ok 0\n"
@@ -145,6 +169,16 @@ leaves "1048577 bytes" "$all_of_x" "ok 0"
 says "1048576 bytes, the last of them a mark" 0 1 "GetNelems('x');$(blanks_to $((1048576 - 26)))\n--session\n" "1 ok 0\n"
 holds "1048576 bytes: so many" [ "$(wc -c < sessions.source)" -eq 1048576 ]
 says "seventeen sections of 1048577 bytes" 8 1 "$(marks 16)$(blanks_to $((1048577 - 160)))" ""
+says "a byte past the limit begins none" 8 1 "$insertion$(marks 1)$(blanks_to $((1048577 - 48)))" ""
+holds "a byte past the limit: so many" [ "$(wc -c < sessions.source)" -eq 1048577 ]
+leaves "a byte past the limit begins none" "$all_of_x" "ok 0"
+says "a byte past the limit begins none, with more than 16 sections too" 8 1 \
+  "$insertion$(marks 16)$(blanks_to $((1048577 - 198)))" ""
+holds "a byte past the limit, with more than 16 sections too: so many" [ "$(wc -c < sessions.source)" -eq 1048577 ]
+leaves "a byte past the limit begins none, with more than 16 sections too" "$all_of_x" "ok 0"
+says "a byte past the limit begins none: the byte before does" 0 1 \
+  "$insertion$(marks 1)$(blanks_to $((1048576 - 48)))" "1 ok D04\n"
+holds "the byte before the limit: so many" [ "$(wc -c < sessions.source)" -eq 1048576 ]
 cp two_series.volume sessions.volume
 wants "a source without an end" 8 bash -c "yes \"InsElem('x','2011-01-03 00:00:00',1);\" | exec \"\$0\" sessions.volume sessions 1" "$ts"
 same "a source without an end: replies" said nothing

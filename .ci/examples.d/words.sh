@@ -65,3 +65,13 @@ in_format() {
 write_at() {
   printf "$3" | dd of="$1" bs=1 seek="$2" conv=notrunc status=none
 }
+
+# answers NAME VOLUME: of lines `STATEMENTS -> REPLY / REPLY`, a run of all statements says all replies.
+answers() {
+  cat > rows
+  sed 's/ -> .*//' rows > rows.script
+  sed 's/.* -> //; s: / :\n:g' rows > rows.replies
+  input=rows.script wants "$1" 0 "$ts" "$2" run
+  same "$1: replies" said rows.replies
+  rm rows rows.script rows.replies
+}

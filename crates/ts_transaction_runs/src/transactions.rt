@@ -1,5 +1,4 @@
-// Transactions: what is said in them, what is left of one that the script's end cuts off, and what a stop within each
-// call that isn't a read leaves.
+// Transactions: what a stop within each call that isn't a read leaves.
 ghost use Rattle.std.specs.Prelude.{◌<◌};
 ghost use Rattle.ts_disk.specs.Memory.{site_calls};
 
@@ -7,84 +6,11 @@ use std::alloc::Global;
 use std::test::Fail;
 use std::thread::Threads;
 use ts_disk::MemorySite;
-use ts_programs::{PICKS, answers, bytes_after, only, reads, run, volume};
+use ts_programs::{PICKS, bytes_after, only, reads, run};
 
 /// Makes two series.
 const SERIES: &[u8] = b"CreateRowType(rd, t datetime, v integer);TSContainerCreate(c1, rd, 8);\
     TSCreateIrr('x', c1);TSCreateIrr('y', c1);";
-
-const INSERTION: &[u8] = b"InsElem('x','2011-01-03 00:00:00',1);";
-
-const INSERTED: &[u8] = b"ok 2011-01-03 00:00:00.00000\n";
-
-const COUNT: &[u8] = b"GetNelems('x');";
-
-// A volume with both series.
-fn with_series(rt: &(impl Threads + Sync), alloc: Global) -> Result<Vec<MemorySite>, Fail> {
-    let mut sites = vec![in alloc; volume(rt, alloc, "8")?]?;
-    let site = only(&mut sites)?;
-    run(rt, alloc, site, SERIES)?;
-    Ok(sites)
-}
-
-#[test]
-fn a_rollback_takes_back_what_a_commit_keeps(rt: HostRuntime) -> Result<(), Fail> {
-    let alloc = rt.alloc();
-    let mut sites = with_series(&rt, alloc)?;
-    let site = only(&mut sites)?;
-    let talk: [(&[u8], &[u8]); 11] = [
-        (b"Begin;", b"ok\n"),
-        (INSERTION, INSERTED),
-        (COUNT, b"ok 1\n"),
-        (b"Rollback;", b"ok\n"),
-        (COUNT, b"ok 0\n"),
-        (b"Begin;", b"ok\n"),
-        (INSERTION, INSERTED),
-        (b"Begin;", b"error 51 AlreadyOpen\n"),
-        (b"Commit;", b"ok 1\n"),
-        (b"Commit;", b"error 50 NotOpen\n"),
-        (COUNT, b"ok 1\n"),
-    ];
-    assert!(rt; answers(&rt, alloc, site, &talk)?);
-    Ok(())
-}
-
-// Commands that change nothing count too; readings don't, and are answered in a full transaction.
-#[test]
-fn a_transaction_takes_32_commands_that_write(rt: HostRuntime) -> Result<(), Fail> {
-    let alloc = rt.alloc();
-    let mut sites = with_series(&rt, alloc)?;
-    let site = only(&mut sites)?;
-    let mut script = Vec::from_slice(alloc, b"Begin;")?;
-    let mut said = Vec::from_slice(alloc, b"ok\n")?;
-    for _ in 0..32 {
-        script.extend_from_slice(b"DelElem('x','2011-01-03 00:00:00');")?;
-        said.extend_from_slice(b"ok 0\n")?;
-    }
-    let talk: [(&[u8], &[u8]); 4] = [
-        (script.as_slice(), said.as_slice()),
-        (
-            b"DelElem('x','2011-01-03 00:00:00');",
-            b"error 52 TransactionFull\n",
-        ),
-        (COUNT, b"ok 0\n"),
-        (b"Commit;", b"ok 32\n"),
-    ];
-    assert!(rt; answers(&rt, alloc, site, &talk)?);
-    Ok(())
-}
-
-#[test]
-fn a_transaction_that_is_open_at_the_end_is_given_up(rt: HostRuntime) -> Result<(), Fail> {
-    let alloc = rt.alloc();
-    let mut sites = with_series(&rt, alloc)?;
-    let site = only(&mut sites)?;
-    let begun: [(&[u8], &[u8]); 2] = [(b"Begin;", b"ok\n"), (INSERTION, INSERTED)];
-    assert!(rt; answers(&rt, alloc, site, &begun)?);
-    let after: [(&[u8], &[u8]); 2] = [(COUNT, b"ok 0\n"), (b"Rollback;", b"error 50 NotOpen\n")];
-    assert!(rt; answers(&rt, alloc, site, &after)?);
-    Ok(())
-}
 
 /// Four elements, two in each series.
 const FOUR: &[u8] =
