@@ -1,8 +1,8 @@
-//! Worked definitions and elements in the pages of a volume, with their bytes, and what a survey reads of them. There
-//! are only tests: they stand apart, since a crate that has tests of its own is proved twice. Stands on ts_container,
-//! which it tests, and on ts_layout, ts_model and ts_page below it. Read `volume.rt`, then `slots.rt` and
-//! `elements.rt`, then the others in any order. Which page of a damaged volume is told stands in
-//! `.ci/examples.d/surveyed.sh`.
+//! Worked definitions in their slots; definitions and elements in the pages of a volume, with their bytes, and what a
+//! survey reads of them. There are only tests: they stand apart, since a crate that has tests of its own is proved
+//! twice. Stands on ts_container and ts_model, which it tests, and on ts_layout and ts_page. Read `definitions.rt`,
+//! `volume.rt`, then `slots.rt` and `elements.rt`, then the others in any order. Which page of a damaged volume is told
+//! stands in `.ci/examples.d/surveyed.sh`.
 #![tactic(auto)]
 
 #[cfg(test)]
@@ -11,6 +11,8 @@ mod calendars;
 mod chains;
 #[cfg(test)]
 mod charges;
+#[cfg(test)]
+mod definitions;
 #[cfg(test)]
 mod elements;
 #[cfg(test)]

@@ -1,6 +1,6 @@
 use Rattle.std.proofs.Common.{inl, sym, ◌∙◌}
 use Rattle.ts_model.specs.Definitions.{slot_of, slots}
-use Rattle.ts_layout_vectors.proofs.definitions.put.Goals as goal
+use Rattle.ts_page_vectors.proofs.definitions.put.Goals as goal
 
 pub set-requires-clause-name : goal.set-requires-clause-name
 set-requires-clause-name c =
