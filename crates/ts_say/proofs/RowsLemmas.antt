@@ -6,7 +6,7 @@ use Rattle.std.proofs.lemmas.List.{length-replicate}
 use Rattle.ts_base.specs.Moment.{stamp_text}
 use Rattle.ts_row.specs.declared.kind.Column.{Column}
 use Rattle.ts_row.specs.declared.value.Value.TheVariants.{Null}
-use Rattle.ts_row.specs.Row.{is_row_type, scale_of, Values, Row, hold, fits, visible, value_text, values_text}
+use Rattle.ts_row.specs.Row.{is_row_type, scale_of, Values, Row, hold, fits, visible, value_text, values_text, Extends}
 use Rattle.ts_row.proofs.PrintLemmas.{print_more}
 use Rattle.ts_combine.specs.Combine.{values_or_nulls}
 use Rattle.ts_answer.specs.Reply.{element_line}
@@ -73,3 +73,7 @@ joined_said cs ds x y stamp old first one comma two new some more left right sta
     new_is ∙ ap (λ l. l ++ 10 ∷ []) (two_is ∙ ap (λ l. l ++ values_text ds ws) (comma_is ∙ ap (λ l. l ++ 44 ∷ []) (one_is ∙ ap (λ l. l ++ values_text cs vs) stamp_is)))
     ∙ parts_in_line old (stamp_text stamp) (values_text cs vs) (values_text ds ws)
     ∙ ap (λ l. old ++ (((stamp_text stamp ++ 32 ∷ []) ++ l) ++ 10 ∷ [])) (sym text)
+
+-- what is longer at its end by more is longer
+pub extends_then : (a b c : List ℕ) → Extends a b → Extends b c → Extends a c
+extends_then a b c p q = (p.0 ++ q.0, q.1 ∙ ap (λ l. l ++ q.0) p.1 ∙ append_assoc a p.0 q.0)

@@ -8,11 +8,13 @@ day_text day =
     four_digits (civil_of day).year ++ 45 ∷ two_digits (civil_of day).month ++ 45 ∷ two_digits (civil_of day).day ++ 32
     ∷ []
 
--- the text of the units since midnight
-abbrev pub time_text : ℕ → List ℕ
-time_text clock =
-    two_digits (clock / 360_000_000) ++ 58 ∷ two_digits (clock / 6_000_000 % 60) ++ 58 ∷
-    two_digits (clock / 100_000 % 60) ++ 46 ∷ five_digits (clock % 100_000)
+-- the text of the seconds since midnight
+abbrev pub seconds_text : ℕ → List ℕ
+seconds_text n = two_digits (n / 3600) ++ 58 ∷ two_digits (n / 60 % 60) ++ 58 ∷ two_digits (n % 60)
+
+-- no fraction of a second, and a blank
+abbrev pub no_fraction : List ℕ
+no_fraction = 46 ∷ five_digits 0 ++ 32 ∷ []
 
 -- a number of units is a midnight
 abbrev pub IsMidnight : ℤ → Type 0

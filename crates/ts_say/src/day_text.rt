@@ -1,8 +1,8 @@
 // The text of the day on which stamps lie.
-ghost use Rattle.std.specs.Prelude.{◌≡◌, ◌/◌, ◌%◌, ◌<◌, ◌∷◌, ◌++◌, [], take, OnOk, OnErr};
+ghost use Rattle.std.specs.Prelude.{◌≡◌, ◌<◌, ◌∷◌, ◌++◌, [], take, drop, OnOk, OnErr};
 ghost use Rattle.ts_base.specs.Moment.{IsStamp, day_of, clock_of, stamp_text};
 ghost use Rattle.ts_base.specs.Moment;
-ghost use Rattle.ts_say.specs.Day.{day_text, time_text, IsMidnight};
+ghost use Rattle.ts_say.specs.Day.{day_text, seconds_text, no_fraction, IsMidnight};
 ghost use Rattle.ts_row.specs.Row.{Extends};
 
 use crate::pairs::two_digits;
@@ -20,11 +20,14 @@ const SECOND: u64 = 100_000;
 pub struct DayText {
     /// In units since 1970.
     midnight: i64,
-    /// The date, a blank, and behind them the time that was said last.
+    /// The date, a blank, a time in whole seconds, which is the one that was said last, and a blank.
     text: [u8; 26],
     ghost is_midnight: { IsMidnight midnight },
     ghost bounds: { IsStamp midnight },
     ghost is_text: { take 11 text ≡ day_text (day_of midnight) },
+    ghost colon: { take 1 (drop 13 text) ≡ 58 ∷ [] },
+    ghost next_colon: { take 1 (drop 16 text) ≡ 58 ∷ [] },
+    ghost whole: { take 7 (drop 19 text) ≡ no_fraction },
 }
 
 impl DayText {
@@ -44,7 +47,7 @@ impl DayText {
         stamp.write_into(&mut whole);
         DayText {
             midnight: midnight_before(stamp),
-            text: with_blank(&whole),
+            text: midnight_text(&whole),
         }
     }
 
@@ -78,70 +81,102 @@ impl DayText {
         ensures err { OnErr result (Extends out.old out.new) }
     {
         let clock = self.turn(stamp);
-        if clock % SECOND > 0 {
-            return self.say_fraction(out, clock);
+        let seconds = (clock / SECOND) as u32;
+        *self = self.with_time(seconds);
+        let fraction = clock - seconds as u64 * SECOND;
+        if fraction > 0 {
+            return self.say_fraction(out, fraction as u32);
         }
-        self.say_time(out, clock)
-    }
-
-    // Says the same day, at a time that isn't whole seconds. It stands by itself, since most stamps are whole seconds:
-    // the digits behind the point are then all 0.
-    #[inline(never)]
-    fn say_fraction(&mut self, out: &mut Reply, clock: u64) -> Result<(), AllocError>
-        requires { clock < 8_640_000_000 }
-        ensures ok { OnOk result (out.new ≡ out.old
-            ++ day_text (day_of self.old.midnight) ++ (time_text clock ++ 32 ∷ [])) }
-        ensures err { OnErr result (Extends out.old out.new) }
-    {
-        self.say_time(out, clock)
-    }
-
-    // Says the same day, at so many units since its midnight, and a blank behind it.
-    #[inline(always)]
-    fn say_time(&mut self, out: &mut Reply, clock: u64) -> Result<(), AllocError>
-        requires { clock < 8_640_000_000 }
-        ensures ok { OnOk result (out.new ≡ out.old
-            ++ day_text (day_of self.old.midnight) ++ (time_text clock ++ 32 ∷ [])) }
-        ensures err { OnErr result (Extends out.old out.new) }
-    {
-        *self = self.with_time(clock);
         out.extend_from_slice(&self.text)
     }
 
-    // The same day, with so many units since its midnight behind it.
-    #[inline(always)]
-    fn with_time(&self, clock: u64) -> DayText
-        requires { clock < 8_640_000_000 }
-        ensures { result.text ≡ day_text (day_of self.now.midnight) ++ (time_text clock ++ 32 ∷ []) }
+    // Says the same day and time with a fraction of a second. It stands by itself, since most stamps are whole seconds.
+    #[inline(never)]
+    fn say_fraction(&self, out: &mut Reply, fraction: u32) -> Result<(), AllocError>
+        requires { fraction < 100_000 }
+        ensures ok { OnOk result (out.new ≡ out.old
+            ++ take 19 self.now.text ++ 46 ∷ Moment.five_digits fraction ++ 32 ∷ []) }
+        ensures err { OnErr result (Extends out.old out.new) }
     {
+        out.extend_from_slice(&text_and_fraction(&self.text, &five_digits(fraction)))
+    }
+
+    // The same day, at so many seconds since its midnight.
+    #[inline(always)]
+    fn with_time(&self, seconds: u32) -> DayText
+        requires { seconds < 86_400 }
+        ensures same { result.midnight ≡ self.now.midnight }
+        ensures text { result.text ≡ day_text (day_of self.now.midnight) ++ seconds_text seconds ++ no_fraction }
+    {
+        let minutes = seconds / 60;
+        let hour = minutes / 60;
+        let digits = (
+            two_digits(hour),
+            two_digits(minutes - hour * 60),
+            two_digits(seconds - minutes * 60),
+        );
         DayText {
             midnight: self.midnight,
-            text: day_and_time(&self.text, &time(clock)),
+            text: text_and_time(&self.text, &digits.0, &digits.1, &digits.2),
         }
     }
 }
 
-// The bytes of a day in a text, and behind them those of a time.
+// A text with another hour, minute and second in it.
 #[inline(always)]
-fn day_and_time(text: &[u8; 26], time: &[u8; 15]) -> [u8; 26]
-    ensures { result ≡ take 11 text.now ++ take 15 time.now }
+fn text_and_time(text: &[u8; 26], hour: &[u8; 2], minute: &[u8; 2], second: &[u8; 2]) -> [u8; 26]
+    ensures { result ≡ take 11 text.now ++ take 2 hour.now ++ take 1 (drop 13 text.now) ++ take 2 minute.now
+        ++ take 1 (drop 16 text.now) ++ take 2 second.now ++ take 7 (drop 19 text.now) }
 {
     [
         text[0], text[1], text[2], text[3], text[4], text[5], text[6], text[7], text[8], text[9],
-        text[10], time[0], time[1], time[2], time[3], time[4], time[5], time[6], time[7], time[8],
-        time[9], time[10], time[11], time[12], time[13], time[14],
+        text[10], hour[0], hour[1], text[13], minute[0], minute[1], text[16], second[0], second[1],
+        text[19], text[20], text[21], text[22], text[23], text[24], text[25],
     ]
 }
 
-// A text with a blank behind it.
-fn with_blank(whole: &[u8; 25]) -> [u8; 26]
-    ensures { take 11 result ≡ take 11 whole.now }
+// A text with a fraction of a second in it.
+fn text_and_fraction(text: &[u8; 26], fraction: &[u8; 5]) -> [u8; 26]
+    ensures { result ≡ take 19 text.now ++ 46 ∷ take 5 fraction.now ++ 32 ∷ [] }
+{
+    [
+        text[0],
+        text[1],
+        text[2],
+        text[3],
+        text[4],
+        text[5],
+        text[6],
+        text[7],
+        text[8],
+        text[9],
+        text[10],
+        text[11],
+        text[12],
+        text[13],
+        text[14],
+        text[15],
+        text[16],
+        text[17],
+        text[18],
+        b'.',
+        fraction[0],
+        fraction[1],
+        fraction[2],
+        fraction[3],
+        fraction[4],
+        b' ',
+    ]
+}
+
+// The text of a day's midnight, by that of a stamp on the day.
+fn midnight_text(whole: &[u8; 25]) -> [u8; 26]
+    ensures { result ≡ take 11 whole.now ++ seconds_text 0 ++ no_fraction }
 {
     [
         whole[0], whole[1], whole[2], whole[3], whole[4], whole[5], whole[6], whole[7], whole[8],
-        whole[9], whole[10], whole[11], whole[12], whole[13], whole[14], whole[15], whole[16],
-        whole[17], whole[18], whole[19], whole[20], whole[21], whole[22], whole[23], whole[24],
-        b' ',
+        whole[9], whole[10], b'0', b'0', b':', b'0', b'0', b':', b'0', b'0', b'.', b'0', b'0',
+        b'0', b'0', b'0', b' ',
     ]
 }
 
@@ -162,58 +197,11 @@ fn midnight_before(stamp: Stamp) -> i64
     stamp.units() - clock(stamp) as i64
 }
 
-// The text of the units since midnight, and a blank.
-fn time(clock: u64) -> [u8; 15]
-    requires { clock < 8_640_000_000 }
-    ensures { result ≡ time_text clock ++ 32 ∷ [] }
-{
-    let (hour, minute, second, fraction) = clock_parts(clock);
-    let [hour_tens, hour_ones] = two_digits(hour);
-    let [minute_tens, minute_ones] = two_digits(minute);
-    let [second_tens, second_ones] = two_digits(second);
-    let [ten_thousands, thousands, hundreds, tens, ones] = five_digits(fraction);
-    [
-        hour_tens,
-        hour_ones,
-        b':',
-        minute_tens,
-        minute_ones,
-        b':',
-        second_tens,
-        second_ones,
-        b'.',
-        ten_thousands,
-        thousands,
-        hundreds,
-        tens,
-        ones,
-        b' ',
-    ]
-}
-
-// The hour, the minute, the second and the fraction of a second, by numbers of 32 bits.
-#[inline(always)]
-fn clock_parts(clock: u64) -> (u32, u32, u32, u32)
-    requires { clock < 8_640_000_000 }
-    ensures hour { result.0 ≡ clock / 360_000_000 }
-    ensures minute { result.1 ≡ clock / 6_000_000 % 60 }
-    ensures second { result.2 ≡ clock / 100_000 % 60 }
-    ensures fraction { result.3 ≡ clock % 100_000 }
-{
-    let seconds = (clock / 100_000) as u32;
-    let fraction = (clock % 100_000) as u32;
-    (seconds / 3600, seconds / 60 % 60, seconds % 60, fraction)
-}
-
-// The digits of a fraction of a second, which is mostly none.
-#[inline(always)]
+// The digits of a fraction of a second.
 fn five_digits(n: u32) -> [u8; 5]
     requires { n < 100_000 }
     ensures { result ≡ Moment.five_digits n }
 {
-    if n == 0 {
-        return [b'0'; 5];
-    }
     let [ten_thousands, thousands] = two_digits(n / 1000);
     let [hundreds, tens] = two_digits(n % 1000 / 10);
     [

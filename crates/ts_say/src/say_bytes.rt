@@ -4,13 +4,12 @@ ghost use Rattle.std.specs.Prelude.{OnOk, OnErr};
 ghost use Rattle.std.specs.List.{list_all};
 ghost use Rattle.std.specs.Int.{cast_signed, from_be_bytes, w64, w128};
 ghost use Rattle.ts_row.specs.declared.value.Value.{Value};
-ghost use Rattle.ts_row.specs.declared.value.Value.TheVariants.{Null};
 ghost use Rattle.ts_row.specs.Row.{column_width, is_kind, scale_of, width_of, Values, number_text, value_text};
 ghost use Rattle.ts_row.specs.Row.{values_text, Extends};
 ghost use Rattle.ts_row.specs.Decoding.{text_in, filled_in, value_in, values_in};
 
-use crate::say_numbers::{say_long_decimal, say_short_decimal, say_whole};
-use crate::say_values::say_quoted;
+use crate::say_numbers::{say_scaled, say_short_decimal, say_whole};
+use crate::say_values::{say_null, say_text};
 use std::alloc::AllocError;
 use ts_base::Reply;
 use ts_row::{Column, ColumnKind, MOST_DIGITS, SHORT_DIGITS};
@@ -81,16 +80,6 @@ fn say_value_in(
     say_filled_in(out, kind, bytes, behind)
 }
 
-// Says NULL, and a byte behind it.
-#[inline(never)]
-fn say_null(out: &mut Reply, behind: u8) -> Result<(), AllocError>
-    ensures ok { OnOk result (out.new ≡ out.old ++ value_text 0 Null ++ behind ∷ []) }
-    ensures err { OnErr result (Extends out.old out.new) }
-{
-    out.extend_from_slice(b"null")?;
-    out.push(behind)
-}
-
 // Says the value that bytes are, which aren't NULL's, and a byte behind it. What is said in many steps stands by
 // itself, so that a whole number is said with no register kept.
 fn say_filled_in(
@@ -117,15 +106,15 @@ fn say_filled_in(
         }
         ColumnKind::BigInt => say_whole(out, eight_bytes(bytes), behind),
         ColumnKind::Decimal { digits, scale } => {
-            say_decimal_before(out, *digits, *scale, bytes, behind)
+            say_decimal_in(out, *digits, *scale, bytes, behind)
         }
-        ColumnKind::VarChar { length } => say_text_before(out, *length, bytes, behind),
+        ColumnKind::VarChar { length } => say_text_in(out, *length, bytes, behind),
     }
 }
 
 // Says the number of a decimal that bytes are, and a byte behind it.
 #[inline(never)]
-fn say_decimal_before(
+fn say_decimal_in(
     out: &mut Reply,
     digits: u16,
     scale: u16,
@@ -140,36 +129,10 @@ fn say_decimal_before(
         ++ behind ∷ []) }
     ensures err { OnErr result (Extends out.old out.new) }
 {
-    say_decimal_in(out, digits, scale, bytes)?;
-    out.push(behind)
-}
-
-// Says the text that a length, bytes and zeros are, and a byte behind it.
-#[inline(never)]
-fn say_text_before(out: &mut Reply, most: u16, bytes: &[u8], behind: u8) -> Result<(), AllocError>
-    requires { length bytes.now ≡ most + 1 }
-    ensures ok { OnOk result ((value : Value) → text_in most bytes.now ≡ Some value
-        → out.new ≡ out.old ++ value_text 0 value ++ behind ∷ []) }
-    ensures front { OnOk result (Extends out.old out.new) }
-    ensures err { OnErr result (Extends out.old out.new) }
-{
-    say_text_in(out, most, bytes)?;
-    out.push(behind)
-}
-
-// Says the number of a decimal that bytes are.
-fn say_decimal_in(out: &mut Reply, digits: u16, scale: u16, bytes: &[u8]) -> Result<(), AllocError>
-    requires digits { digits ≤ MOST_DIGITS }
-    requires scale { scale ≤ digits }
-    requires size { length bytes.now ≡ (if nat_lt SHORT_DIGITS digits then 16 else 8) }
-    ensures ok { OnOk result (out.new ≡ out.old ++ number_text scale (if nat_lt SHORT_DIGITS digits
-        then cast_signed w128 (from_be_bytes w128 bytes.now) else cast_signed w64 (from_be_bytes w64 bytes.now))) }
-    ensures err { OnErr result (Extends out.old out.new) }
-{
     if digits > SHORT_DIGITS {
-        say_long_decimal(out, sixteen_bytes(bytes), scale as u32)
+        say_scaled(out, sixteen_bytes(bytes), scale as u32, behind)
     } else {
-        say_short_decimal(out, eight_bytes(bytes), scale as u32)
+        say_short_decimal(out, eight_bytes(bytes), scale as u32, behind)
     }
 }
 
@@ -194,11 +157,12 @@ fn eight_bytes(bytes: &[u8]) -> i64
     ])
 }
 
-// Says the text that a length, bytes and zeros are.
-fn say_text_in(out: &mut Reply, most: u16, bytes: &[u8]) -> Result<(), AllocError>
+// Says the text that a length, bytes and zeros are, and a byte behind it.
+#[inline(never)]
+fn say_text_in(out: &mut Reply, most: u16, bytes: &[u8], behind: u8) -> Result<(), AllocError>
     requires { length bytes.now ≡ most + 1 }
     ensures ok { OnOk result ((value : Value) → text_in most bytes.now ≡ Some value
-        → out.new ≡ out.old ++ value_text 0 value) }
+        → out.new ≡ out.old ++ value_text 0 value ++ behind ∷ []) }
     ensures front { OnOk result (Extends out.old out.new) }
     ensures err { OnErr result (Extends out.old out.new) }
 {
@@ -208,7 +172,5 @@ fn say_text_in(out: &mut Reply, most: u16, bytes: &[u8]) -> Result<(), AllocErro
     let Some(text) = bytes.get(..*length as usize) else {
         return Ok(());
     };
-    out.push(b'\'')?;
-    say_quoted(out, text)?;
-    out.push(b'\'')
+    say_text(out, text, behind)
 }

@@ -6,8 +6,9 @@ ghost use Rattle.ts_running.specs.Binding.{value_if_any, numbers_row};
 ghost use Rattle.ts_answer.specs.Reply.{scaled_text, folded_line, folded_text, series_folded_line};
 
 use crate::day_text::DayText;
-use crate::say_rows::{say_scaled, say_value};
-use crate::say_values::{say_count, say_quoted};
+use crate::say_numbers::say_scaled;
+use crate::say_rows::say_value;
+use crate::say_values::{say_count, say_null, say_quoted};
 use std::alloc::AllocError;
 use ts_base::{Key, Reply, Stamp};
 use ts_entry::ElementVisitor;
@@ -113,8 +114,7 @@ pub fn say_series_folded(
     out.extend_from_slice(b"'")?;
     say_quoted(out, key.as_slice())?;
     out.extend_from_slice(b"' ")?;
-    say_scaled_values(out, scales, row.values())?;
-    out.extend_from_slice(b"\n")
+    say_scaled_values(out, scales, row.values())
 }
 
 // Says what a list makes of elements in a line.
@@ -131,8 +131,7 @@ fn say_folded_line(
     ensures err { OnErr result (Extends out.old out.new) }
 {
     day.say(out, stamp)?;
-    say_scaled_values(out, scales, row.values())?;
-    out.push(b'\n')
+    say_scaled_values(out, scales, row.values())
 }
 
 // Says a row of numbers in a line.
@@ -149,63 +148,66 @@ fn say_numbers_line(
     ensures err { OnErr result (Extends out.old out.new) }
 {
     day.say(out, stamp)?;
-    say_scaled_numbers(out, scales, numbers)?;
-    out.push(b'\n')
+    say_scaled_numbers(out, scales, numbers)
 }
 
-// Says numbers, each with as many digits after the point as its scale, with commas between them; none as NULL.
+// Says numbers, each with as many digits after the point as its scale, with commas between them, none as NULL; and a
+// line feed.
 fn say_scaled_numbers(
     out: &mut Reply,
     scales: &[u8],
     numbers: &[Option<i128>],
 ) -> Result<(), AllocError>
     requires { All (λ s. s ≤ most_scale) scales.now }
-    ensures ok { OnOk result (out.new ≡ out.old ++ scaled_text scales.now (map value_if_any numbers.now)) }
+    ensures ok { OnOk result (out.new ≡ out.old ++ scaled_text scales.now (map value_if_any numbers.now) ++ 10 ∷ []) }
     ensures err { OnErr result (Extends out.old out.new) }
 {
     let Some((scale, scales)) = scales.split_first() else {
-        return Ok(());
+        return out.push(b'\n');
     };
     let Some((number, numbers)) = numbers.split_first() else {
-        return Ok(());
+        return out.push(b'\n');
     };
-    say_number_if_any(out, *number, *scale as u32)?;
     if is_end(scales, numbers) {
-        return Ok(());
+        return say_number_if_any(out, *number, *scale as u32, b'\n');
     }
-    out.push(b',')?;
+    say_number_if_any(out, *number, *scale as u32, b',')?;
     say_scaled_numbers(out, scales, numbers)
 }
 
-// Says a number with so many digits after the point, or NULL where there is none.
-fn say_number_if_any(out: &mut Reply, number: Option<i128>, scale: u32) -> Result<(), AllocError>
+// Says a number with so many digits after the point, or NULL where there is none, and a byte behind it.
+fn say_number_if_any(
+    out: &mut Reply,
+    number: Option<i128>,
+    scale: u32,
+    behind: u8,
+) -> Result<(), AllocError>
     requires { scale ≤ most_scale }
-    ensures ok { OnOk result (out.new ≡ out.old ++ value_text scale (value_if_any number)) }
+    ensures ok { OnOk result (out.new ≡ out.old ++ value_text scale (value_if_any number) ++ behind ∷ []) }
     ensures err { OnErr result (Extends out.old out.new) }
 {
     match number {
-        None => out.extend_from_slice(b"null"),
-        Some(number) => say_scaled(out, number, scale),
+        None => say_null(out, behind),
+        Some(number) => say_scaled(out, number, scale, behind),
     }
 }
 
-// Says values, each number with as many digits after the point as its scale, with commas between them.
+// Says values, each number with as many digits after the point as its scale, with commas between them, and a line feed.
 fn say_scaled_values(out: &mut Reply, scales: &[u8], values: &[Value]) -> Result<(), AllocError>
     requires { All (λ s. s ≤ most_scale) scales.now }
-    ensures ok { OnOk result (out.new ≡ out.old ++ scaled_text scales.now values.now) }
+    ensures ok { OnOk result (out.new ≡ out.old ++ scaled_text scales.now values.now ++ 10 ∷ []) }
     ensures err { OnErr result (Extends out.old out.new) }
 {
     let Some((scale, scales)) = scales.split_first() else {
-        return Ok(());
+        return out.push(b'\n');
     };
     let Some((value, values)) = values.split_first() else {
-        return Ok(());
+        return out.push(b'\n');
     };
-    say_value(out, value, *scale as u32)?;
     if is_end(scales, values) {
-        return Ok(());
+        return say_value(out, value, *scale as u32, b'\n');
     }
-    out.push(b',')?;
+    say_value(out, value, *scale as u32, b',')?;
     say_scaled_values(out, scales, values)
 }
 

@@ -1,19 +1,19 @@
 // Rows of many lines, said from their values.
-ghost use Rattle.std.specs.Prelude.{◌≡◌, ◌↔◌, ◌⊎◌, ◌≤◌, ◌++◌, IsTrue, IfSome, OnOk, OnErr, length, replicate};
+ghost use Rattle.std.specs.Prelude.{◌≡◌, ◌↔◌, ◌⊎◌, ◌≤◌, [], ◌∷◌, ◌++◌, IsTrue, IfSome, OnOk, OnErr, length, replicate};
 ghost use Rattle.std.specs.List.{list_all};
 ghost use Rattle.std.specs.Option.{option_copied};
 ghost use Rattle.ts_row.specs.declared.value.Value.TheVariants.{Null};
-ghost use Rattle.ts_row.specs.Row.{is_kind, fits, visible, number_text, value_text, values_text, Extends};
+ghost use Rattle.ts_row.specs.Row.{is_kind, fits, visible, value_text, values_text, Extends};
 ghost use Rattle.ts_combine.specs.Combine.{values_or_nulls};
 ghost use Rattle.ts_expr.specs.Aggregates.{most_scale};
 ghost use Rattle.ts_answer.specs.Reply.{element_line};
 
 use crate::day_text::DayText;
-use crate::say_numbers::{say_long_decimal, say_short_decimal};
-use crate::say_values::say_quoted;
+use crate::say_numbers::say_scaled;
+use crate::say_values::{say_null, say_text};
 use std::alloc::AllocError;
 use ts_base::{Reply, Stamp};
-use ts_row::{Column, Row, RowType, SHORT_DIGITS, Value};
+use ts_row::{Column, Row, RowType, Value};
 
 /// Says an element in a line.
 #[tactic(auto, unfolding(ts_answer::specs::Reply::element_line))]
@@ -28,8 +28,7 @@ pub fn say_line(
     ensures err { OnErr result (Extends out.old out.new) }
 {
     day.say(out, stamp)?;
-    say_values(out, kind.columns(), row.values())?;
-    out.push(b'\n')
+    say_values(out, kind.columns(), row.values(), b'\n')
 }
 
 /// Says in a line what two series have at a stamp: the values of both, NULL in each column of one that has no row.
@@ -52,43 +51,51 @@ pub fn say_joined(
     ensures err { OnErr result (Extends out.old out.new) }
 {
     day.say(out, stamp)?;
-    say_side(out, first_kind.columns(), first)?;
-    out.push(b',')?;
-    say_side(out, second_kind.columns(), second)?;
-    out.push(b'\n')
+    say_side(out, first_kind.columns(), first, b',')?;
+    say_side(out, second_kind.columns(), second, b'\n')
 }
 
-// Says the values of a row, or NULL for each column where there is none.
-fn say_side(out: &mut Reply, columns: &[Column], row: Option<&Row>) -> Result<(), AllocError>
+// Says the values of a row, or NULL for each column where there is none, and a byte behind them.
+fn say_side(
+    out: &mut Reply,
+    columns: &[Column],
+    row: Option<&Row>,
+    behind: u8,
+) -> Result<(), AllocError>
     requires { IsTrue (list_all (λ c. is_kind c.kind) columns.now) }
     ensures ok { OnOk result (out.new ≡ out.old
-        ++ values_text columns.now (values_or_nulls (length columns.now) (option_copied row.entry))) }
+        ++ values_text columns.now (values_or_nulls (length columns.now) (option_copied row.entry)) ++ behind ∷ []) }
     ensures err { OnErr result (Extends out.old out.new) }
 {
     match row {
-        Some(row) => say_values(out, columns, row.values()),
-        None => say_nulls(out, columns),
+        Some(row) => say_values(out, columns, row.values(), behind),
+        None => say_nulls(out, columns, behind),
     }
 }
 
-// Says values, each as its column prints it, with commas between them.
-fn say_values(out: &mut Reply, columns: &[Column], values: &[Value]) -> Result<(), AllocError>
+// Says values, each as its column prints it, with commas between them, and a byte behind them.
+fn say_values(
+    out: &mut Reply,
+    columns: &[Column],
+    values: &[Value],
+    behind: u8,
+) -> Result<(), AllocError>
     requires { IsTrue (list_all (λ c. is_kind c.kind) columns.now) }
-    ensures ok { OnOk result (out.new ≡ out.old ++ values_text columns.now values.now) }
+    ensures ok { OnOk result (out.new ≡ out.old ++ values_text columns.now values.now ++ behind ∷ []) }
     ensures err { OnErr result (Extends out.old out.new) }
 {
     let Some((column, columns)) = columns.split_first() else {
-        return Ok(());
+        return out.push(behind);
     };
     let Some((value, values)) = values.split_first() else {
-        return Ok(());
+        return out.push(behind);
     };
-    say_value(out, value, column.kind.scale() as u32)?;
+    let scale = column.kind.scale() as u32;
     if is_end(columns, values) {
-        return Ok(());
+        return say_value(out, value, scale, behind);
     }
-    out.push(b',')?;
-    say_values(out, columns, values)
+    say_value(out, value, scale, b',')?;
+    say_values(out, columns, values, behind)
 }
 
 // Whether there are no columns or no values.
@@ -98,47 +105,36 @@ fn is_end(columns: &[Column], values: &[Value]) -> bool
     columns.is_empty() || values.is_empty()
 }
 
-// Says NULL for each column.
-fn say_nulls(out: &mut Reply, columns: &[Column]) -> Result<(), AllocError>
-    ensures ok { OnOk result (out.new ≡ out.old ++ values_text columns.now (replicate (length columns.now) Null)) }
+// Says NULL for each column, and a byte behind the last.
+fn say_nulls(out: &mut Reply, columns: &[Column], behind: u8) -> Result<(), AllocError>
+    ensures ok { OnOk result (out.new ≡ out.old
+        ++ values_text columns.now (replicate (length columns.now) Null) ++ behind ∷ []) }
     ensures err { OnErr result (Extends out.old out.new) }
 {
     let Some((_, columns)) = columns.split_first() else {
-        return Ok(());
+        return out.push(behind);
     };
-    out.extend_from_slice(b"null")?;
     if columns.is_empty() {
-        return Ok(());
+        return say_null(out, behind);
     }
-    out.push(b',')?;
-    say_nulls(out, columns)
+    say_null(out, b',')?;
+    say_nulls(out, columns, behind)
 }
 
-/// Says a value, a number with so many digits after the point.
-pub(crate) fn say_value(out: &mut Reply, value: &Value, scale: u32) -> Result<(), AllocError>
+/// Says a value, a number with so many digits after the point, and a byte behind it.
+pub(crate) fn say_value(
+    out: &mut Reply,
+    value: &Value,
+    scale: u32,
+    behind: u8,
+) -> Result<(), AllocError>
     requires { scale ≤ most_scale }
-    ensures ok { OnOk result (out.new ≡ out.old ++ value_text scale value.now) }
+    ensures ok { OnOk result (out.new ≡ out.old ++ value_text scale value.now ++ behind ∷ []) }
     ensures err { OnErr result (Extends out.old out.new) }
 {
     match value {
-        Value::Null => out.extend_from_slice(b"null"),
-        Value::Number(number) => say_scaled(out, *number, scale),
-        Value::Text(text) => {
-            out.push(b'\'')?;
-            say_quoted(out, text.as_slice())?;
-            out.push(b'\'')
-        }
-    }
-}
-
-/// Says a number with so many digits after the point.
-pub(crate) fn say_scaled(out: &mut Reply, number: i128, scale: u32) -> Result<(), AllocError>
-    requires { scale ≤ most_scale }
-    ensures ok { OnOk result (out.new ≡ out.old ++ number_text scale number) }
-    ensures err { OnErr result (Extends out.old out.new) }
-{
-    match i64::try_from(number) {
-        Ok(short) if scale <= SHORT_DIGITS as u32 => say_short_decimal(out, short, scale),
-        _ => say_long_decimal(out, number, scale),
+        Value::Null => say_null(out, behind),
+        Value::Number(number) => say_scaled(out, *number, scale, behind),
+        Value::Text(text) => say_text(out, text.as_slice(), behind),
     }
 }

@@ -1,8 +1,10 @@
 // What a reply says of counts, stamps, elements and series.
-ghost use Rattle.std.specs.Prelude.{◌≡◌, ◌++◌, IsTrue, IfSome, OnOk, OnErr, decimal, map, option_to_list};
+ghost use Rattle.std.specs.Prelude.{◌≡◌, [], ◌∷◌, ◌++◌, IsTrue, IfSome, OnOk, OnErr, decimal, map, option_to_list};
 ghost use Rattle.std.specs.List.{flat_map};
 ghost use Rattle.ts_base.specs.Moment.{stamp_text};
-ghost use Rattle.ts_row.specs.Row.{fits, quoted, Extends};
+ghost use Rattle.ts_row.specs.declared.value.Value.{Value};
+ghost use Rattle.ts_row.specs.declared.value.Value.TheVariants.{Null};
+ghost use Rattle.ts_row.specs.Row.{fits, quoted, value_text, Extends};
 ghost use Rattle.ts_answer.specs.Reply.{count_line, counts_line, number_line, stamp_line, element_line, elements_text};
 ghost use Rattle.ts_answer.specs.Reply.{series_line, shape_word};
 
@@ -182,4 +184,26 @@ pub(crate) fn say_quoted(out: &mut Reply, text: &[u8]) -> Result<(), AllocError>
         out.push(*byte)?;
     }
     Ok(())
+}
+
+/// Says NULL, and a byte behind it.
+#[inline(never)]
+pub(crate) fn say_null(out: &mut Reply, behind: u8) -> Result<(), AllocError>
+    ensures ok { OnOk result (out.new ≡ out.old ++ value_text 0 Null ++ behind ∷ []) }
+    ensures err { OnErr result (Extends out.old out.new) }
+{
+    out.extend_from_slice(b"null")?;
+    out.push(behind)
+}
+
+/// Says a text in quotes, and a byte behind it.
+#[inline(never)]
+pub(crate) fn say_text(out: &mut Reply, text: &[u8], behind: u8) -> Result<(), AllocError>
+    ensures ok { OnOk result (out.new ≡ out.old ++ value_text 0 (Value.Text text.now) ++ behind ∷ []) }
+    ensures err { OnErr result (Extends out.old out.new) }
+{
+    out.push(b'\'')?;
+    say_quoted(out, text)?;
+    out.push(b'\'')?;
+    out.push(behind)
 }
