@@ -13,12 +13,12 @@ use Rattle.ts_row.specs.Decoding.{number_in}
 use Rattle.ts_row.specs.declared.value.Value.{Value}
 use Rattle.ts_row.specs.declared.value.Value.TheVariants.{Null, Number, Text}
 use Rattle.ts_expr.specs.Aggregates.{is_text_kind}
-use Rattle.ts_aggregate.specs.declared.numbers.Bests.{Bests}
 use Rattle.ts_aggregate.specs.declared.numbers.Gathered.{Gathered}
 use Rattle.ts_aggregate.specs.declared.numbers.NumberSize.TheVariants.{Eight, Sixteen}
+use Rattle.ts_aggregate.specs.declared.numbers.Sought.{Sought}
 use Rattle.ts_aggregate.specs.declared.numbers.Totals.{Totals}
 use Rattle.ts_aggregate.specs.Column.{better, is_small}
-use Rattle.ts_aggregate.specs.Totals.{size_of, bytes_in, number_of_size, IsBest, bests, best_of, gathered, AreBests, AreKnown}
+use Rattle.ts_aggregate.specs.Totals.{size_of, bytes_in, number_of_size, IsBest, best_of, gathered, AreTotals, AreKnown}
 
 -- the numbers of a column are those of its size
 sized : (kind : ColumnKind) → is_text_kind kind ≡ false → (bytes : List ℕ) → number_of_size (size_of kind) bytes ≡ number_in kind bytes
@@ -85,16 +85,15 @@ null_first : (most : Bool) (z : ℤ) → better most Null (Number z) ≡ Number 
 null_first true z = refl
 null_first false z = refl
 
-best_kept : (most : Bool) (kept : Value) (zs : List ℤ) (z : ℤ) → (length zs ≡ 0 → ⊥) → IsBest most zs z
+pub best_kept : (most : Bool) (kept : Value) (zs : List ℤ) (z : ℤ) → (length zs ≡ 0 → ⊥) → IsBest most zs z
     → better most kept (Number z) ≡ fold (better most) kept (map (λ y. Number y) zs)
 best_kept most kept [] z some best = absurd (some refl)
 best_kept most kept (x ∷ zs) z some best =
     sym (best_behind most kept x zs z (ap (λ (v : Value). fold (better most) v (map (λ u. Number u) zs)) (sym (null_first most x)) ∙ best some))
 
-pub bests_kept : (most : Bool) (kept : Value) (zs : List ℤ) (b : Bests) → (length zs ≡ 0 → ⊥) → AreBests zs b
-    → better most kept (Number (best_of most b)) ≡ fold (better most) kept (map (λ y. Number y) zs)
-bests_kept true kept zs b some are = best_kept true kept zs b.greatest some are.greatest
-bests_kept false kept zs b some are = best_kept false kept zs b.least some are.least
+pub best_told : (most : Bool) (zs : List ℤ) (t : Totals) → AreTotals zs t → IfSome (best_of most t) (IsBest most zs)
+best_told true zs t are = are.greatest
+best_told false zs t are = are.least
 
 pub none_kept : (most : Bool) (kept : Value) (zs : List ℤ) → length zs ≡ 0 → kept ≡ fold (better most) kept (map (λ y. Number y) zs)
 none_kept most kept [] none = refl
@@ -106,19 +105,19 @@ best_so_far zero z = Null
 best_so_far (suc n) z = Number z
 
 -- what was gathered, and the numbers that are left; all of them lie between two bounds
-pub record SoFar (top : ℕ) (all : List ℤ) (sought : Bool) (g : Gathered) (left : List ℤ) : Type 0 where
+pub record SoFar (top : ℕ) (all : List ℤ) (sought : Sought) (g : Gathered) (left : List ℤ) : Type 0 where
   pub count : g.count + length left ≡ length all
   pub small : IsTrue (list_all is_small all) → IsTrue (list_all is_small left)
   pub digits : IsTrue (list_all is_small all) → unsigned_abs g.sum ≤ g.count * 10 ^ 28
   pub sum : IsTrue (list_all is_small all) → fold ◌+ℤ◌ g.sum left ≡ fold ◌+ℤ◌ (pos 0) all
   pub first_least : g.count ≡ 0 → g.least ≡ pos top
   pub first_greatest : g.count ≡ 0 → g.greatest ≡ negsuc top
-  pub least : IsTrue sought → fold (better false) (best_so_far g.count g.least) (map (λ z. Number z) left)
+  pub least : IsTrue sought.least → fold (better false) (best_so_far g.count g.least) (map (λ z. Number z) left)
       ≡ fold (better false) Null (map (λ z. Number z) all)
-  pub greatest : IsTrue sought → fold (better true) (best_so_far g.count g.greatest) (map (λ z. Number z) left)
+  pub greatest : IsTrue sought.greatest → fold (better true) (best_so_far g.count g.greatest) (map (λ z. Number z) left)
       ≡ fold (better true) Null (map (λ z. Number z) all)
 
-pub none_gathered : (top : ℕ) (all : List ℤ) (sought : Bool) → SoFar top all sought (gathered 0 (pos 0) (pos top) (negsuc top)) all
+pub none_gathered : (top : ℕ) (all : List ℤ) (sought : Sought) → SoFar top all sought (gathered 0 (pos 0) (pos top) (negsuc top)) all
 none_gathered top all sought = record {
   count = omega arith;
   small = λ small. small;
@@ -147,10 +146,10 @@ greatest_more top zero kept z first within =
 greatest_more top (suc n) kept z first within = greater_is kept z
 
 -- one more is gathered
-pub more_gathered : (top : ℕ) (all : List ℤ) (sought : Bool) (g h : Gathered) (z : ℤ) (left zs : List ℤ) → SoFar top all sought g left → left ≡ z ∷ zs
+pub more_gathered : (top : ℕ) (all : List ℤ) (sought : Sought) (g h : Gathered) (z : ℤ) (left zs : List ℤ) → SoFar top all sought g left → left ≡ z ∷ zs
     → z ≤ℤ pos top → negsuc top ≤ℤ z
     → h.count ≡ g.count + 1 → (unsigned_abs g.sum ≤ g.count * 10 ^ 28 → unsigned_abs z < 2 ^ 94 → h.sum ≡ g.sum +ℤ z)
-    → (IsTrue sought → h.least ≡ int_min g.least z) → (IsTrue sought → h.greatest ≡ int_max g.greatest z)
+    → (IsTrue sought.least → h.least ≡ int_min g.least z) → (IsTrue sought.greatest → h.greatest ≡ int_max g.greatest z)
     → SoFar top all sought h zs
 more_gathered top all sought g h z left zs was split high low count sum least greatest = record {
   count = omega (arith, was.count, ap length split, count);
@@ -195,25 +194,23 @@ best_is : (most : Bool) (zs : List ℤ) (count : ℕ) (z : ℤ) → count ≡ le
 best_is most zs zero z many is some = absurd (some (sym many))
 best_is most zs (suc n) z many is some = sym is
 
-pub all_gathered : (top : ℕ) (all : List ℤ) (sought : Bool) (g : Gathered) (t : Totals) → SoFar top all sought g [] → t.count ≡ g.count
+pub all_gathered : (top : ℕ) (all : List ℤ) (sought : Sought) (g : Gathered) (t : Totals) → SoFar top all sought g [] → t.count ≡ g.count
     → unsigned_abs t.sum ≤ t.count * 10 ^ 28 → (unsigned_abs g.sum ≤ g.count * 10 ^ 28 → t.sum ≡ g.sum)
-    → t.bests ≡ (if sought then Some (bests g.least g.greatest) else None) → AreKnown all t
-all_gathered top all sought g t so_far count digits sum best = record {
+    → t.least ≡ (if sought.least then Some g.least else None)
+    → t.greatest ≡ (if sought.greatest then Some g.greatest else None) → AreKnown all t
+all_gathered top all sought g t so_far count digits sum least greatest = record {
   digits = digits;
   exact = λ small. record {
     count = omega (arith, count, so_far.count);
     sum = sum (so_far.digits small) ∙ so_far.sum small;
-    bests = subst (λ (o : Option Bests). IfSome o (AreBests all)) (sym best) (by sought so_far.least so_far.greatest);
+    least = subst (λ (o : Option ℤ). IfSome o (IsBest false all)) (sym least) (by false sought.least g.least so_far.least);
+    greatest = subst (λ (o : Option ℤ). IfSome o (IsBest true all)) (sym greatest) (by true sought.greatest g.greatest so_far.greatest);
   };
 } where
   many : g.count ≡ length all
   many = omega (arith, so_far.count)
 
-  by : (b : Bool) → (IsTrue b → best_so_far g.count g.least ≡ fold (better false) Null (map (λ x. Number x) all))
-      → (IsTrue b → best_so_far g.count g.greatest ≡ fold (better true) Null (map (λ x. Number x) all))
-      → IfSome (if b then Some (bests g.least g.greatest) else None) (AreBests all)
-  by true least greatest = record {
-    least = best_is false all g.count g.least many (least refl);
-    greatest = best_is true all g.count g.greatest many (greatest refl);
-  }
-  by false least greatest = tt
+  by : (most : Bool) (b : Bool) (z : ℤ) → (IsTrue b → best_so_far g.count z ≡ fold (better most) Null (map (λ x. Number x) all))
+      → IfSome (if b then Some z else None) (IsBest most all)
+  by most true z best = best_is most all g.count z many (best refl)
+  by most false z best = tt

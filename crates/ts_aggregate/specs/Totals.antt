@@ -1,7 +1,7 @@
 -- What is known of the numbers of a column in cells, and the tallies that it is enough for.
 use Rattle.std.specs.Prelude.{◌≡◌, ℕ, ◌*◌, ◌^◌, ◌≤◌, Bool, true, false, is_some, if◌then◌else◌, nat_lt}
 use Rattle.std.specs.Prelude.{ℤ, pos, ◌+ℤ◌, unsigned_abs}
-use Rattle.std.specs.Prelude.{IsTrue, IfSome, List, length, map, fold}
+use Rattle.std.specs.Prelude.{Option, IsTrue, IfSome, List, length, map, fold}
 use Rattle.std.specs.List.{list_all}
 use Rattle.std.specs.Int.{w16, w32, w64, w128, from_be_bytes, cast_signed}
 use Rattle.ts_row.specs.declared.kind.ColumnKind.{ColumnKind}
@@ -11,10 +11,10 @@ use Rattle.ts_row.specs.declared.value.Value.TheVariants.{Null, Number}
 use Rattle.ts_expr.specs.declared.tally.Tally.{Tally}
 use Rattle.ts_expr.specs.declared.tally.Tally.TheVariants as tally
 use Rattle.ts_aggregate.specs.declared.cells.Cells.{Cells}
-use Rattle.ts_aggregate.specs.declared.numbers.Bests.{Bests}
 use Rattle.ts_aggregate.specs.declared.numbers.Gathered.{Gathered}
 use Rattle.ts_aggregate.specs.declared.numbers.NumberSize.{NumberSize}
 use Rattle.ts_aggregate.specs.declared.numbers.NumberSize.TheVariants.{Two, Four, Eight, Sixteen}
+use Rattle.ts_aggregate.specs.declared.numbers.Sought.{Sought}
 use Rattle.ts_aggregate.specs.declared.numbers.Totals.{Totals}
 use Rattle.ts_aggregate.specs.Column.{found, better, is_small}
 
@@ -47,26 +47,20 @@ sized_numbers size c = map (number_of_size size) (found c)
 abbrev pub IsBest : Bool → List ℤ → ℤ → Type 0
 IsBest most zs z = (length zs ≡ 0 → ⊥) → fold (better most) Null (map (λ x. Number x) zs) ≡ Number z
 
-abbrev pub bests : ℤ → ℤ → Bests
-bests least greatest = record { least = least; greatest = greatest }
-
 -- numbers so far
 abbrev pub gathered : ℕ → ℤ → ℤ → ℤ → Gathered
 gathered count sum least greatest = record { count = count; sum = sum; least = least; greatest = greatest }
 
-pub record AreBests (zs : List ℤ) (b : Bests) : Type 0 where
-  pub least : IsBest false zs b.least
-  pub greatest : IsBest true zs b.greatest
-
 -- the greatest or the least
-abbrev pub best_of : Bool → Bests → ℤ
-best_of most b = if most then b.greatest else b.least
+abbrev pub best_of : Bool → Totals → Option ℤ
+best_of most t = if most then t.greatest else t.least
 
--- how many numbers there are, their sum, and the least and the greatest where they were sought
+-- how many numbers there are, their sum, and the least and the greatest where each was sought
 pub record AreTotals (zs : List ℤ) (t : Totals) : Type 0 where
   pub count : t.count ≡ length zs
   pub sum : t.sum ≡ fold ◌+ℤ◌ (pos 0) zs
-  pub bests : IfSome t.bests (AreBests zs)
+  pub least : IfSome t.least (IsBest false zs)
+  pub greatest : IfSome t.greatest (IsBest true zs)
 
 -- The sum is never greater than that of so many numbers of 28 digits; it all is that of the numbers where each has as
 -- many at most.
@@ -74,18 +68,18 @@ pub record AreKnown (zs : List ℤ) (t : Totals) : Type 0 where
   pub digits : unsigned_abs t.sum ≤ t.count * 10 ^ 28
   pub exact : IsTrue (list_all is_small zs) → AreTotals zs t
 
--- a tally of the least or the greatest
-abbrev pub is_best : Tally → Bool
-is_best (tally.Min v) = true
-is_best (tally.Max v) = true
-is_best t = false
+-- what a tally needs of the least and the greatest
+abbrev pub needed_of : Tally → Sought
+needed_of (tally.Min v) = record { least = true; greatest = false }
+needed_of (tally.Max v) = record { least = false; greatest = true }
+needed_of t = record { least = false; greatest = false }
 
 -- a tally that totals are enough for
 abbrev pub is_told : Tally → Totals → Bool
 is_told (tally.Count n) t = true
 is_told (tally.Sum s) t = true
 is_told (tally.Avg s) t = true
-is_told (tally.Min v) t = is_some t.bests
-is_told (tally.Max v) t = is_some t.bests
+is_told (tally.Min v) t = is_some t.least
+is_told (tally.Max v) t = is_some t.greatest
 is_told (tally.First v) t = false
 is_told (tally.Last v) t = false

@@ -12,7 +12,7 @@ ghost use Rattle.ts_aggregate.specs.Totals.{AreKnown, AreTotals};
 ghost use Rattle.ts_aggregate.specs.Totals as ThatTotals;
 
 use crate::cells::Cells;
-use crate::numbers::{Bests, MOST_FOLDED, Totals, count_values, find_totals_of, number};
+use crate::numbers::{MOST_FOLDED, Sought, Totals, count_values, find_totals_of, number};
 use crate::texts::{best_text, text_of};
 use std::alloc::{AllocError, Global};
 use ts_base::Bytes;
@@ -20,14 +20,13 @@ use ts_expr::Tally;
 use ts_row::{ColumnKind, Value};
 
 /// Takes the values of a column, as long as there are no more than 2^32 that are counted. Where its numbers were looked
-/// at, what was found out of them is told; the least and the greatest are sought if they are wanted, or where they are
-/// needed.
+/// at, what was found out of them is told; the least or the greatest is sought if it is wanted, or where it is needed.
 pub(crate) fn take_column(
     alloc: Global,
     tally: &mut Tally,
     cells: Cells<'_>,
     kind: ColumnKind,
-    wanted: bool,
+    wanted: Sought,
     totals: &mut Totals,
 ) -> Result<bool, AllocError>
     requires count { count_of tally.old ≤ 2 ^ 32 }
@@ -56,7 +55,7 @@ pub(crate) fn take_column(
             Ok(false)
         }
         _ => {
-            find_totals(is_best(tally), cells, kind, wanted, totals);
+            find_totals(needed_of(tally), cells, kind, wanted, totals);
             take_totals(tally, totals);
             Ok(true)
         }
@@ -92,22 +91,37 @@ fn take_texts(
     Ok(())
 }
 
-fn is_best(tally: &Tally) -> bool
-    ensures { result ≡ ThatTotals.is_best tally.now }
+// What a tally needs of the least and the greatest.
+fn needed_of(tally: &Tally) -> Sought
+    ensures { result ≡ ThatTotals.needed_of tally.now }
 {
-    matches!(tally, Tally::Min(_) | Tally::Max(_))
+    Sought {
+        least: matches!(tally, Tally::Min(_)),
+        greatest: matches!(tally, Tally::Max(_)),
+    }
 }
 
 // Looks at the numbers of a column.
-fn find_totals(needed: bool, cells: Cells<'_>, kind: ColumnKind, wanted: bool, totals: &mut Totals)
+fn find_totals(
+    needed: Sought,
+    cells: Cells<'_>,
+    kind: ColumnKind,
+    wanted: Sought,
+    totals: &mut Totals,
+)
     requires few { cells.left ≤ 4064 }
     requires whole { AreWhole cells }
     requires width { cells.position.width + 1 ≡ column_width kind }
     requires numbers { is_text_kind kind ≡ false }
     ensures known { AreKnown (read_numbers kind cells.entry) totals.new }
-    ensures needed { IsTrue needed → IsSome totals.new.bests }
+    ensures least { IsTrue needed.least → IsSome totals.new.least }
+    ensures greatest { IsTrue needed.greatest → IsSome totals.new.greatest }
 {
-    find_totals_of(cells, kind, needed || wanted, totals);
+    let sought = Sought {
+        least: needed.least || wanted.least,
+        greatest: needed.greatest || wanted.greatest,
+    };
+    find_totals_of(cells, kind, sought, totals);
 }
 
 /// Whether totals are enough for a tally.
@@ -119,8 +133,8 @@ pub(crate) fn is_told(tally: &Tally, totals: &Totals) -> bool
         Tally::Count(_) => true,
         Tally::Sum(_) => true,
         Tally::Avg(_) => true,
-        Tally::Min(_) => totals.bests.is_some(),
-        Tally::Max(_) => totals.bests.is_some(),
+        Tally::Min(_) => totals.least.is_some(),
+        Tally::Max(_) => totals.greatest.is_some(),
         Tally::First(_) => false,
         Tally::Last(_) => false,
     }
@@ -158,25 +172,27 @@ fn add(tally: &mut Tally, count: u64, sum: i128)
     }
 }
 
-// Keeps the least or the greatest of a value and of numbers of which this is known.
+// Keeps the least or the greatest of a value and of numbers of which this is known. It stands by itself, so that neither
+// is read where numbers are counted.
+#[inline(never)]
 fn keep_best(kept: &mut Value, totals: &Totals, most: bool)
-    requires { IsSome totals.now.bests }
+    requires { IsSome (ThatTotals.best_of most totals.now) }
     ensures { (zs : List ℤ) → AreTotals zs totals.now
         → kept.new ≡ fold (Column.better most) kept.old (map (λ z. Number z) zs) }
 {
-    let Some(bests) = totals.bests else {
+    let Some(best) = best_of(totals, most) else {
         return;
     };
     if totals.count == 0 {
         return;
     }
-    keep_number(kept, most, best_of(bests, most));
+    keep_number(kept, most, best);
 }
 
-fn best_of(bests: Bests, most: bool) -> i128
-    ensures { result ≡ ThatTotals.best_of most bests }
+fn best_of(totals: &Totals, most: bool) -> Option<i128>
+    ensures { result ≡ ThatTotals.best_of most totals.now }
 {
-    if most { bests.greatest } else { bests.least }
+    if most { totals.greatest } else { totals.least }
 }
 
 // Keeps the lesser or the greater of a value, if there is one, and a number.

@@ -11,7 +11,7 @@ ghost use Rattle.ts_aggregate.specs.Column.{AreRowCells};
 
 use crate::cells::{Cells, RowCells, ValuePosition};
 use crate::column::{is_told, take_column, take_totals};
-use crate::numbers::Totals;
+use crate::numbers::{Sought, Totals};
 use std::alloc::{AllocError, Global};
 use std::marker::Model;
 use ts_entry::{RowVisitor, Stamps};
@@ -163,7 +163,8 @@ fn take_items(
     let mut totals = Totals {
         count: 0,
         sum: 0,
-        bests: None,
+        least: None,
+        greatest: None,
     };
     for (number, item) in items.iter().enumerate() {
         if item.column == column && is_told(&tallies[number], &totals) {
@@ -182,7 +183,7 @@ fn take_items(
             left: row_cells.left,
             bytes: row_cells.bytes,
         };
-        let wanted = are_bests_wanted(&items[number..], item.column);
+        let wanted = wanted_of(&items[number + 1..], item.column);
         let told = take_column(
             alloc,
             &mut tallies[number],
@@ -203,14 +204,22 @@ fn told_column(told: bool, column: usize, before: usize) -> usize
     if told { column } else { before }
 }
 
-// Whether one of some items wants the least or the greatest of a column.
-fn are_bests_wanted(items: &[BoundItem], column: usize) -> bool {
+// What some items want of the least and the greatest of a column.
+fn wanted_of(items: &[BoundItem], column: usize) -> Sought {
+    let mut wanted = Sought {
+        least: false,
+        greatest: false,
+    };
     for item in items {
-        if item.column == column && matches!(item.function, Function::Min | Function::Max) {
-            return true;
+        if item.column == column {
+            match item.function {
+                Function::Min => wanted.least = true,
+                Function::Max => wanted.greatest = true,
+                _ => {}
+            }
         }
     }
-    false
+    wanted
 }
 
 // The bytes of the columns before one.

@@ -24,15 +24,17 @@ pub(crate) struct Totals {
     /// How many there are.
     pub count: u64,
     pub sum: i128,
-    /// None where they weren't sought.
-    pub bests: Option<Bests>,
+    /// None where it wasn't sought.
+    pub least: Option<i128>,
+    /// None where it wasn't sought.
+    pub greatest: Option<i128>,
 }
 
-/// The least and the greatest of some numbers.
+/// Which of the least and the greatest of some numbers are sought.
 #[derive(Clone, Copy)]
-pub(crate) struct Bests {
-    pub least: i128,
-    pub greatest: i128,
+pub(crate) struct Sought {
+    pub least: bool,
+    pub greatest: bool,
 }
 
 /// How many bytes a column's numbers have.
@@ -75,27 +77,34 @@ pub(crate) fn count_values(cells: Cells<'_>) -> u64
     count
 }
 
-/// Finds out what is known of the numbers of a column, with the least and the greatest where they are sought. There is a
-/// loop of its own for each size, which isn't asked for at each number.
-pub(crate) fn find_totals_of(cells: Cells<'_>, kind: ColumnKind, sought: bool, totals: &mut Totals)
+/// Finds out what is known of the numbers of a column, with the least or the greatest where it is sought. There is a loop
+/// of its own for each size and for what is sought, neither of which is asked for at each number.
+pub(crate) fn find_totals_of(
+    cells: Cells<'_>,
+    kind: ColumnKind,
+    sought: Sought,
+    totals: &mut Totals,
+)
     requires few { cells.left ≤ 4064 }
     requires whole { AreWhole cells }
     requires width { cells.position.width + 1 ≡ column_width kind }
     requires numbers { is_text_kind kind ≡ false }
     ensures known { AreKnown (read_numbers kind cells.entry) totals.new }
-    ensures sought { IsTrue sought → IsSome totals.new.bests }
+    ensures least { IsTrue sought.least → IsSome totals.new.least }
+    ensures greatest { IsTrue sought.greatest → IsSome totals.new.greatest }
 {
     find_sized_totals(cells, size_of(kind), sought, totals);
 }
 
 // The same of numbers of a size. It stands by itself, so that its loops have all registers.
 #[inline(never)]
-fn find_sized_totals(cells: Cells<'_>, size: NumberSize, sought: bool, totals: &mut Totals)
+fn find_sized_totals(cells: Cells<'_>, size: NumberSize, sought: Sought, totals: &mut Totals)
     requires few { cells.left ≤ 4064 }
     requires whole { AreWhole cells }
     requires width { cells.position.width ≡ bytes_in size }
     ensures known { AreKnown (sized_numbers size cells.entry) totals.new }
-    ensures sought { IsTrue sought → IsSome totals.new.bests }
+    ensures least { IsTrue sought.least → IsSome totals.new.least }
+    ensures greatest { IsTrue sought.greatest → IsSome totals.new.greatest }
 {
     if cells.position.place == cells.position.front {
         *totals = totals_if_sought(cells, size, sought, true);
@@ -106,18 +115,58 @@ fn find_sized_totals(cells: Cells<'_>, size: NumberSize, sought: bool, totals: &
 
 // The same by loops for a column that is the first of its row, and by others for one that isn't.
 #[inline(always)]
-fn totals_if_sought(cells: Cells<'_>, size: NumberSize, sought: bool, is_first: bool) -> Totals
+fn totals_if_sought(cells: Cells<'_>, size: NumberSize, sought: Sought, is_first: bool) -> Totals
     requires few { cells.left ≤ 4064 }
     requires whole { AreWhole cells }
     requires width { cells.position.width ≡ bytes_in size }
     requires first { IsTrue is_first → cells.position.place ≡ cells.position.front }
     ensures known { AreKnown (sized_numbers size cells.entry) result }
-    ensures sought { IsTrue sought → IsSome result.bests }
+    ensures least { IsTrue sought.least → IsSome result.least }
+    ensures greatest { IsTrue sought.greatest → IsSome result.greatest }
 {
-    if sought {
-        totals_by_size(cells, size, true, is_first)
+    if sought.least {
+        totals_if_greatest(cells, size, true, sought.greatest, is_first)
     } else {
-        totals_by_size(cells, size, false, is_first)
+        totals_if_greatest(cells, size, false, sought.greatest, is_first)
+    }
+}
+
+#[inline(always)]
+fn totals_if_greatest(
+    cells: Cells<'_>,
+    size: NumberSize,
+    least: bool,
+    greatest: bool,
+    is_first: bool,
+) -> Totals
+    requires few { cells.left ≤ 4064 }
+    requires whole { AreWhole cells }
+    requires width { cells.position.width ≡ bytes_in size }
+    requires first { IsTrue is_first → cells.position.place ≡ cells.position.front }
+    ensures known { AreKnown (sized_numbers size cells.entry) result }
+    ensures least { IsTrue least → IsSome result.least }
+    ensures greatest { IsTrue greatest → IsSome result.greatest }
+{
+    if greatest {
+        totals_by_size(
+            cells,
+            size,
+            Sought {
+                least,
+                greatest: true,
+            },
+            is_first,
+        )
+    } else {
+        totals_by_size(
+            cells,
+            size,
+            Sought {
+                least,
+                greatest: false,
+            },
+            is_first,
+        )
     }
 }
 
@@ -134,13 +183,14 @@ fn size_of(kind: ColumnKind) -> NumberSize
 
 // The same by a loop for the size.
 #[inline(always)]
-fn totals_by_size(cells: Cells<'_>, size: NumberSize, sought: bool, is_first: bool) -> Totals
+fn totals_by_size(cells: Cells<'_>, size: NumberSize, sought: Sought, is_first: bool) -> Totals
     requires few { cells.left ≤ 4064 }
     requires whole { AreWhole cells }
     requires width { cells.position.width ≡ bytes_in size }
     requires first { IsTrue is_first → cells.position.place ≡ cells.position.front }
     ensures known { AreKnown (sized_numbers size cells.entry) result }
-    ensures sought { IsTrue sought → IsSome result.bests }
+    ensures least { IsTrue sought.least → IsSome result.least }
+    ensures greatest { IsTrue sought.greatest → IsSome result.greatest }
 {
     match size {
         NumberSize::Two => short_totals(cells, NumberSize::Two, sought, is_first),
@@ -152,14 +202,15 @@ fn totals_by_size(cells: Cells<'_>, size: NumberSize, sought: bool, is_first: bo
 
 // The same of numbers of at most four bytes, whose sum is one of 64 bits. Cells without one are counted, which are few.
 #[inline(always)]
-fn short_totals(cells: Cells<'_>, size: NumberSize, sought: bool, is_first: bool) -> Totals
+fn short_totals(cells: Cells<'_>, size: NumberSize, sought: Sought, is_first: bool) -> Totals
     requires few { cells.left ≤ 4064 }
     requires whole { AreWhole cells }
     requires width { cells.position.width ≡ bytes_in size }
     requires short { bytes_in size ≤ 4 }
     requires first { IsTrue is_first → cells.position.place ≡ cells.position.front }
     ensures known { AreKnown (sized_numbers size cells.entry) result }
-    ensures sought { IsTrue sought → IsSome result.bests }
+    ensures least { IsTrue sought.least → IsSome result.least }
+    ensures greatest { IsTrue sought.greatest → IsSome result.greatest }
 {
     let position = cells.position;
     let mut left = cells.left;
@@ -197,21 +248,21 @@ fn widened(count: u64, short: GatheredShort) -> Gathered
 
 // With one number more.
 #[inline(always)]
-fn with_short_number(so_far: GatheredShort, number: i64, sought: bool) -> GatheredShort
+fn with_short_number(so_far: GatheredShort, number: i64, sought: Sought) -> GatheredShort
     requires room { unsigned_abs so_far.sum ≤ 4063 * 2 ^ 31 }
     requires short { unsigned_abs number ≤ 2 ^ 31 }
     ensures sum { result.sum ≡ so_far.sum +ℤ number }
-    ensures least { IsTrue sought → result.least ≡ int_min so_far.least number }
-    ensures greatest { IsTrue sought → result.greatest ≡ int_max so_far.greatest number }
+    ensures least { IsTrue sought.least → result.least ≡ int_min so_far.least number }
+    ensures greatest { IsTrue sought.greatest → result.greatest ≡ int_max so_far.greatest number }
 {
     GatheredShort {
         sum: so_far.sum + number,
-        least: if sought {
+        least: if sought.least {
             so_far.least.min(number)
         } else {
             so_far.least
         },
-        greatest: if sought {
+        greatest: if sought.greatest {
             so_far.greatest.max(number)
         } else {
             so_far.greatest
@@ -236,13 +287,14 @@ fn short_number_of_size(size: NumberSize, bytes: &[u8]) -> i64
 
 // The same of numbers of more bytes.
 #[inline(always)]
-fn long_totals(cells: Cells<'_>, size: NumberSize, sought: bool, is_first: bool) -> Totals
+fn long_totals(cells: Cells<'_>, size: NumberSize, sought: Sought, is_first: bool) -> Totals
     requires few { cells.left ≤ 4064 }
     requires whole { AreWhole cells }
     requires width { cells.position.width ≡ bytes_in size }
     requires first { IsTrue is_first → cells.position.place ≡ cells.position.front }
     ensures known { AreKnown (sized_numbers size cells.entry) result }
-    ensures sought { IsTrue sought → IsSome result.bests }
+    ensures least { IsTrue sought.least → IsSome result.least }
+    ensures greatest { IsTrue sought.greatest → IsSome result.greatest }
 {
     let position = cells.position;
     let mut left = cells.left;
@@ -267,19 +319,19 @@ fn long_totals(cells: Cells<'_>, size: NumberSize, sought: bool, is_first: bool)
 
 // With one number more. The sum of numbers that a column may hold doesn't wrap.
 #[inline(always)]
-fn with_number(so_far: Gathered, number: i128, sought: bool) -> Gathered
+fn with_number(so_far: Gathered, number: i128, sought: Sought) -> Gathered
     requires few { so_far.count < 4064 }
     ensures count { result.count ≡ so_far.count + 1 }
     ensures sum { unsigned_abs so_far.sum ≤ so_far.count * 10 ^ 28 → unsigned_abs number < 2 ^ 94
         → result.sum ≡ so_far.sum +ℤ number }
-    ensures least { IsTrue sought → result.least ≡ int_min so_far.least number }
-    ensures greatest { IsTrue sought → result.greatest ≡ int_max so_far.greatest number }
+    ensures least { IsTrue sought.least → result.least ≡ int_min so_far.least number }
+    ensures greatest { IsTrue sought.greatest → result.greatest ≡ int_max so_far.greatest number }
 {
     Gathered {
         count: so_far.count + 1,
         sum: so_far.sum.wrapping_add(number),
-        least: lesser_if(sought, so_far.least, number),
-        greatest: greater_if(sought, so_far.greatest, number),
+        least: lesser_if(sought.least, so_far.least, number),
+        greatest: greater_if(sought.greatest, so_far.greatest, number),
     }
 }
 
@@ -298,25 +350,28 @@ fn greater_if(sought: bool, kept: i128, number: i128) -> i128
 }
 
 // What is known of all.
-fn totals_gathered(all: Gathered, sought: bool) -> Totals
+fn totals_gathered(all: Gathered, sought: Sought) -> Totals
     requires few { all.count ≤ 4064 }
     ensures count { result.count ≡ all.count }
     ensures digits { unsigned_abs result.sum ≤ result.count * 10 ^ 28 }
     ensures sum { unsigned_abs all.sum ≤ all.count * 10 ^ 28 → result.sum ≡ all.sum }
-    ensures bests { result.bests ≡ (if sought then Some (ThatTotals.bests all.least all.greatest) else None) }
+    ensures least { result.least ≡ (if sought.least then Some all.least else None) }
+    ensures greatest { result.greatest ≡ (if sought.greatest then Some all.greatest else None) }
 {
     Totals {
         count: all.count,
         sum: sum_of_so_many(all.count, all.sum),
-        bests: if sought {
-            Some(Bests {
-                least: all.least,
-                greatest: all.greatest,
-            })
-        } else {
-            None
-        },
+        least: if_sought(sought.least, all.least),
+        greatest: if_sought(sought.greatest, all.greatest),
     }
+}
+
+// A number where it was sought.
+#[inline(always)]
+fn if_sought(sought: bool, number: i128) -> Option<i128>
+    ensures { result ≡ (if sought then Some number else None) }
+{
+    if sought { Some(number) } else { None }
 }
 
 // A sum that so many numbers of 28 digits may have, or else 0.

@@ -117,4 +117,4 @@ returns-clause-known c =
     subst (λ (l : List (List ℕ)). SoFar (2 ^ 127 - 1) (sized_numbers c.args.size c.args.cells) c.args.sought
     (gathered was.count was.sum was.least was.greatest) (map (number_of_size c.args.size) l)) none i.gathered in
     all_gathered (2 ^ 127 - 1) (sized_numbers c.args.size c.args.cells) c.args.sought was c.totals_gathered.result
-    all e.count e.digits e.sum e.bests
+    all e.count e.digits e.sum e.least e.greatest

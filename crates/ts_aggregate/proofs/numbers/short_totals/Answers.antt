@@ -89,4 +89,4 @@ returns-clause-known c =
     (subst (λ (l : List (List ℕ)). SoFar (2 ^ 63 - 1) (sized_numbers c.args.size c.args.cells) c.args.sought
     (gathered (total - left - missing) was.sum was.least was.greatest) (map (number_of_size c.args.size) l)) none i.gathered.gathered) in
     all_gathered (2 ^ 63 - 1) (sized_numbers c.args.size c.args.cells) c.args.sought c.widened.result c.totals_gathered.result
-    (subst (λ (g : Gathered). SoFar (2 ^ 63 - 1) (sized_numbers c.args.size c.args.cells) c.args.sought g []) (sym c.widened.ensures) all) e.count e.digits e.sum e.bests
+    (subst (λ (g : Gathered). SoFar (2 ^ 63 - 1) (sized_numbers c.args.size c.args.cells) c.args.sought g []) (sym c.widened.ensures) all) e.count e.digits e.sum e.least e.greatest
