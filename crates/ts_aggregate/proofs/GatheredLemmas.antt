@@ -3,9 +3,9 @@ use Rattle.std.proofs.Common.{◌≡◌, ℕ, ◌+◌, ◌-◌, ◌*◌, ◌<◌
 use Rattle.std.specs.Int.{int_min, int_max}
 use Rattle.std.proofs.lemmas.Int.{ints}
 use Rattle.ts_aggregate.specs.declared.cells.Cells.{Cells}
-use Rattle.ts_aggregate.specs.declared.numbers.GatheredShort.{GatheredShort}
+use Rattle.ts_aggregate.specs.declared.totals.GatheredShort.{GatheredShort}
 use Rattle.ts_aggregate.specs.declared.numbers.NumberSize.{NumberSize}
-use Rattle.ts_aggregate.specs.declared.numbers.Sought.{Sought}
+use Rattle.ts_aggregate.specs.declared.totals.Sought.{Sought}
 use Rattle.ts_aggregate.specs.Column.{has_value, bytes_of, found_in, AreCells}
 use Rattle.ts_aggregate.specs.Totals.{number_of_size, sized_numbers, gathered}
 use Rattle.ts_aggregate.proofs.CellsLemmas.{one_less, first_of, seen, unseen}

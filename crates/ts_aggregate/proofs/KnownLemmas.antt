@@ -12,7 +12,7 @@ use Rattle.ts_expr.specs.Aggregates.{is_text_kind}
 use Rattle.ts_expr.specs.Running.{count_of, with_value}
 use Rattle.ts_aggregate.specs.declared.cells.RowCells.{RowCells}
 use Rattle.ts_aggregate.specs.declared.cells.ValuePosition.{ValuePosition}
-use Rattle.ts_aggregate.specs.declared.numbers.Totals.{Totals}
+use Rattle.ts_aggregate.specs.declared.totals.Totals.{Totals}
 use Rattle.ts_aggregate.specs.Column.{found_in}
 use Rattle.ts_aggregate.specs.Totals.{AreKnown, AreTotals}
 use Rattle.ts_aggregate.specs.KnownColumns.{a_column, kind_at, position_at, numbers_at, IsKnown}

@@ -13,10 +13,10 @@ use Rattle.ts_row.specs.Decoding.{number_in}
 use Rattle.ts_row.specs.declared.value.Value.{Value}
 use Rattle.ts_row.specs.declared.value.Value.TheVariants.{Null, Number, Text}
 use Rattle.ts_expr.specs.Aggregates.{is_text_kind}
-use Rattle.ts_aggregate.specs.declared.numbers.Gathered.{Gathered}
+use Rattle.ts_aggregate.specs.declared.totals.Gathered.{Gathered}
 use Rattle.ts_aggregate.specs.declared.numbers.NumberSize.TheVariants.{Eight, Sixteen}
-use Rattle.ts_aggregate.specs.declared.numbers.Sought.{Sought}
-use Rattle.ts_aggregate.specs.declared.numbers.Totals.{Totals}
+use Rattle.ts_aggregate.specs.declared.totals.Sought.{Sought}
+use Rattle.ts_aggregate.specs.declared.totals.Totals.{Totals}
 use Rattle.ts_aggregate.specs.Column.{better, is_small}
 use Rattle.ts_aggregate.specs.Totals.{size_of, bytes_in, number_of_size, IsBest, best_of, gathered, AreTotals, AreKnown}
 

@@ -8,7 +8,7 @@ use Rattle.ts_row.specs.Decoding.{number_in}
 use Rattle.ts_expr.specs.Aggregates.{is_text_kind}
 use Rattle.ts_aggregate.specs.declared.cells.RowCells.{RowCells}
 use Rattle.ts_aggregate.specs.declared.cells.ValuePosition.{ValuePosition}
-use Rattle.ts_aggregate.specs.declared.numbers.Totals.{Totals}
+use Rattle.ts_aggregate.specs.declared.totals.Totals.{Totals}
 use Rattle.ts_aggregate.specs.Column.{found_in}
 use Rattle.ts_aggregate.specs.Totals.{AreKnown}
 

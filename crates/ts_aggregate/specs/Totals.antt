@@ -11,11 +11,11 @@ use Rattle.ts_row.specs.declared.value.Value.TheVariants.{Null, Number}
 use Rattle.ts_expr.specs.declared.tally.Tally.{Tally}
 use Rattle.ts_expr.specs.declared.tally.Tally.TheVariants as tally
 use Rattle.ts_aggregate.specs.declared.cells.Cells.{Cells}
-use Rattle.ts_aggregate.specs.declared.numbers.Gathered.{Gathered}
+use Rattle.ts_aggregate.specs.declared.totals.Gathered.{Gathered}
 use Rattle.ts_aggregate.specs.declared.numbers.NumberSize.{NumberSize}
 use Rattle.ts_aggregate.specs.declared.numbers.NumberSize.TheVariants.{Two, Four, Eight, Sixteen}
-use Rattle.ts_aggregate.specs.declared.numbers.Sought.{Sought}
-use Rattle.ts_aggregate.specs.declared.numbers.Totals.{Totals}
+use Rattle.ts_aggregate.specs.declared.totals.Sought.{Sought}
+use Rattle.ts_aggregate.specs.declared.totals.Totals.{Totals}
 use Rattle.ts_aggregate.specs.Column.{found, better, is_small}
 
 -- how many bytes a column's numbers have

@@ -12,8 +12,9 @@ ghost use Rattle.ts_aggregate.specs.Totals.{AreKnown, AreTotals};
 ghost use Rattle.ts_aggregate.specs.Totals as ThatTotals;
 
 use crate::cells::Cells;
-use crate::numbers::{MOST_FOLDED, Sought, Totals, count_values, find_totals_of, number};
+use crate::numbers::number;
 use crate::texts::{best_text, text_of};
+use crate::totals::{MOST_FOLDED, Sought, Totals, count_values, find_totals_of};
 use std::alloc::{AllocError, Global};
 use ts_base::Bytes;
 use ts_expr::Tally;

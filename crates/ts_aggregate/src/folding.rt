@@ -11,7 +11,7 @@ ghost use Rattle.ts_aggregate.specs.Column.{AreRowCells};
 
 use crate::cells::{Cells, RowCells, ValuePosition};
 use crate::column::{is_told, take_column, take_totals};
-use crate::numbers::{Sought, Totals};
+use crate::totals::{Sought, Totals};
 use std::alloc::{AllocError, Global};
 use std::marker::Model;
 use ts_entry::{RowVisitor, Stamps};

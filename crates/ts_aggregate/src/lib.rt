@@ -21,6 +21,7 @@ mod run;
 mod series_pages;
 mod span;
 mod texts;
+mod totals;
 mod wanted;
 
 pub use all_series::aggregate_all;

@@ -3,7 +3,7 @@ use Rattle.std.proofs.Common.{◌-◌, ◌^◌, map}
 use Rattle.ts_aggregate.specs.Column.{found_in, AreCells}
 use Rattle.ts_aggregate.specs.Totals.{number_of_size, sized_numbers}
 use Rattle.ts_aggregate.proofs.TotalsLemmas.{SoFar}
-use Rattle.ts_aggregate.proofs.numbers.long_totals.Given as goal
+use Rattle.ts_aggregate.proofs.totals.long_totals.Given as goal
 
 abbrev pub invariant-loop-left : goal.invariant-loop-left
 invariant-loop-left l = record {

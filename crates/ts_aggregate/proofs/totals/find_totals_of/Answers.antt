@@ -3,7 +3,7 @@ use Rattle.ts_aggregate.specs.declared.numbers.NumberSize.{NumberSize}
 use Rattle.ts_aggregate.specs.Column.{found}
 use Rattle.ts_aggregate.specs.Totals.{bytes_in, number_of_size, AreKnown}
 use Rattle.ts_aggregate.proofs.TotalsLemmas.{all_sized, width_sized}
-use Rattle.ts_aggregate.proofs.numbers.find_totals_of.Goals as goal
+use Rattle.ts_aggregate.proofs.totals.find_totals_of.Goals as goal
 
 pub find_sized_totals-requires-clause-width : goal.find_sized_totals-requires-clause-width
 find_sized_totals-requires-clause-width c =

@@ -6,7 +6,7 @@ use Rattle.ts_aggregate.specs.Column.{found_in, bytes_of}
 use Rattle.ts_aggregate.specs.Totals.{number_of_size, sized_numbers, gathered}
 use Rattle.ts_aggregate.proofs.CellsLemmas.{one_less, one_fits, first_of, seen, unseen, found-le, none_found}
 use Rattle.ts_aggregate.proofs.TotalsLemmas.{SoFar, none_gathered, more_gathered, all_gathered}
-use Rattle.ts_aggregate.proofs.numbers.long_totals.Goals as goal
+use Rattle.ts_aggregate.proofs.totals.long_totals.Goals as goal
 
 pub loop-left-init : goal.loop-left-init
 loop-left-init c = record {

@@ -1,13 +1,13 @@
 use Rattle.std.proofs.Common.{to_z, of_z, ◌≡◌, ◌+◌, ◌-◌, ◌<◌, ◌^◌, ℕ, ℤ, pos, negsuc, List, [], map, sym, ap, subst, ◌∙◌, arith}
 use Rattle.std.specs.Int.{w64}
 use Rattle.std.proofs.lemmas.Int.{ints}
-use Rattle.ts_aggregate.specs.declared.numbers.Gathered.{Gathered}
+use Rattle.ts_aggregate.specs.declared.totals.Gathered.{Gathered}
 use Rattle.ts_aggregate.specs.Column.{found_in, bytes_of}
 use Rattle.ts_aggregate.specs.Totals.{number_of_size, sized_numbers, gathered}
 use Rattle.ts_aggregate.proofs.CellsLemmas.{none_found}
 use Rattle.ts_aggregate.proofs.TotalsLemmas.{SoFar, none_gathered, all_gathered}
 use Rattle.ts_aggregate.proofs.GatheredLemmas.{AreGathered, one_gathered, none_more}
-use Rattle.ts_aggregate.proofs.numbers.short_totals.Goals as goal
+use Rattle.ts_aggregate.proofs.totals.short_totals.Goals as goal
 
 pub loop-left-init : goal.loop-left-init
 loop-left-init c =

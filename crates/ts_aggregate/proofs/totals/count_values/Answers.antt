@@ -1,6 +1,6 @@
 use Rattle.std.proofs.Common.{ap, length, arith}
 use Rattle.ts_aggregate.proofs.CellsLemmas.{found-few}
-use Rattle.ts_aggregate.proofs.numbers.count_values.Goals as goal
+use Rattle.ts_aggregate.proofs.totals.count_values.Goals as goal
 
 pub overflow_add-count : goal.overflow_add-count
 overflow_add-count c =

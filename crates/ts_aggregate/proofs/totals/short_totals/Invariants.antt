@@ -1,7 +1,7 @@
 -- Those gathered and those that are left are all.
 use Rattle.std.proofs.Common.{◌+◌, ◌-◌, ◌≤◌}
 use Rattle.ts_aggregate.proofs.GatheredLemmas.{AreGathered}
-use Rattle.ts_aggregate.proofs.numbers.short_totals.Given as goal
+use Rattle.ts_aggregate.proofs.totals.short_totals.Given as goal
 
 abbrev pub invariant-loop-left : goal.invariant-loop-left
 invariant-loop-left l = record {
