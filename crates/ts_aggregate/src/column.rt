@@ -155,8 +155,8 @@ pub(crate) fn take_totals(tally: &mut Tally, totals: &Totals)
         Tally::Count(_) => add(tally, totals.count, totals.sum),
         Tally::Sum(_) => add(tally, totals.count, totals.sum),
         Tally::Avg(_) => add(tally, totals.count, totals.sum),
-        Tally::Min(kept) => keep_best(kept, totals, false),
-        Tally::Max(kept) => keep_best(kept, totals, true),
+        Tally::Min(kept) => keep_least(kept, totals),
+        Tally::Max(kept) => keep_greatest(kept, totals),
         _ => {}
     }
 }
@@ -173,9 +173,28 @@ fn add(tally: &mut Tally, count: u64, sum: i128)
     }
 }
 
-// Keeps the least or the greatest of a value and of numbers of which this is known. It stands by itself, so that neither
-// is read where numbers are counted.
+// Keeps the least of a value and of numbers of which this is known. It stands by itself, as does the greatest, so that
+// neither is read where numbers are counted.
 #[inline(never)]
+fn keep_least(kept: &mut Value, totals: &Totals)
+    requires { IsSome totals.now.least }
+    ensures { (zs : List ℤ) → AreTotals zs totals.now
+        → kept.new ≡ fold (Column.better false) kept.old (map (λ z. Number z) zs) }
+{
+    keep_best(kept, totals, false);
+}
+
+#[inline(never)]
+fn keep_greatest(kept: &mut Value, totals: &Totals)
+    requires { IsSome totals.now.greatest }
+    ensures { (zs : List ℤ) → AreTotals zs totals.now
+        → kept.new ≡ fold (Column.better true) kept.old (map (λ z. Number z) zs) }
+{
+    keep_best(kept, totals, true);
+}
+
+// The one or the other.
+#[inline(always)]
 fn keep_best(kept: &mut Value, totals: &Totals, most: bool)
     requires { IsSome (ThatTotals.best_of most totals.now) }
     ensures { (zs : List ℤ) → AreTotals zs totals.now

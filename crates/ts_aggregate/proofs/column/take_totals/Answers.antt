@@ -50,11 +50,11 @@ returns-in-Avg-clause-value c = λ zs are few.
 pub returns-in-Min-clause-value : goal.returns-in-Min-clause-value
 returns-in-Min-clause-value c = λ zs are few.
     let values : List Value = map (λ z. Number z) zs in
-    ap (λ (v : Value). tally.Min v) (c.keep_best.ensures zs are) ∙ least_all c.in-Min.kept values
+    ap (λ (v : Value). tally.Min v) (c.keep_least.ensures zs are) ∙ least_all c.in-Min.kept values
     ∙ ap (λ (t : Tally). fold with_value t values) (sym c.in-Min.is)
 
 pub returns-in-Max-clause-value : goal.returns-in-Max-clause-value
 returns-in-Max-clause-value c = λ zs are few.
     let values : List Value = map (λ z. Number z) zs in
-    ap (λ (v : Value). tally.Max v) (c.keep_best-in-Max.ensures zs are) ∙ greatest_all c.in-Max.kept values
+    ap (λ (v : Value). tally.Max v) (c.keep_greatest.ensures zs are) ∙ greatest_all c.in-Max.kept values
     ∙ ap (λ (t : Tally). fold with_value t values) (sym c.in-Max.is)
