@@ -14,3 +14,4 @@ pub mod FoldingLemmas
 pub mod StackLemmas
 pub mod PieceLemmas
 pub mod TurnLemmas
+pub mod LengthLemmas

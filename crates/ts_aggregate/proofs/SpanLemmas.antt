@@ -74,43 +74,53 @@ module _ (c : CalendarPlan) (laid : IsLaid c) (n end : ℤ) (start : start_at c 
 bound_none : (c : CalendarPlan) → IsBound c None
 bound_none c t u s v before behind held later = absurd (behind tt)
 
--- the interval around a stamp, if it exists
-module _ (c : CalendarPlan) (laid : IsLaid c) (at k : ℤ) (around : IsAround c at k) where
-  before_next : IsBefore at (start_at c (k +ℤ pos 1))
-  before_next = by (start_at c (k +ℤ pos 1)) refl
-    where
-      by : (o : Option ℤ) → start_at c (k +ℤ pos 1) ≡ o → IsBefore at o
-      by None is = tt
-      by (Some end) is = around.late (k +ℤ pos 1) end (omega (arith, ints)) is
+-- an interval has an end
+bound_next : (c : CalendarPlan) → IsLaid c → (k : ℤ) → IsBound c (start_at c (k +ℤ pos 1))
+bound_next c laid k = by (start_at c (k +ℤ pos 1)) refl
+  where
+    by : (o : Option ℤ) → start_at c (k +ℤ pos 1) ≡ o → IsBound c o
+    by None is = bound_none c
+    by (Some end) is = bound_at c laid (k +ℤ pos 1) end is
 
-  bound_next : IsBound c (start_at c (k +ℤ pos 1))
-  bound_next = by (start_at c (k +ℤ pos 1)) refl
-    where
-      by : (o : Option ℤ) → start_at c (k +ℤ pos 1) ≡ o → IsBound c o
-      by None is = bound_none c
-      by (Some end) is = bound_at c laid (k +ℤ pos 1) end is
+-- from its start up to its end it holds the stamps, where it is on
+held_on : (c : CalendarPlan) → IsLaid c → (k s : ℤ) → start_at c k ≡ Some s → is_on c k ≡ true → (t : ℤ) → IsStamp t → s ≤ℤ t
+    → IsBefore t (start_at c (k +ℤ pos 1)) → held_start c t ≡ start_at c k
+held_on c laid k s start on t stamp after before =
+    held-from c t s laid stamp (record {
+      interval = k;
+      on = on;
+      start = start;
+      held = record { from = s; exists_from = start; after = after; before = before };
+    }) ∙ sym start
 
-  -- up to its end it holds the stamps behind
-  held_on : is_on c k ≡ true → (t : ℤ) → IsStamp t → at ≤ℤ t → IsBefore t (start_at c (k +ℤ pos 1)) → held_start c t ≡ start_at c k
-  held_on on t stamp after before =
-      let f = on-exists c k on in
-      let low = around.early k f.0 (omega (arith, ints)) f.1 in
-      held-from c t f.0 laid stamp (record {
-        interval = k;
-        on = on;
-        start = f.1;
-        held = record { from = f.0; exists_from = f.1; after = omega (arith, ints, low, after); before = before };
-      }) ∙ sym f.1
+-- a stamp stands before the end of the interval around it
+before_next : (c : CalendarPlan) (at k : ℤ) → IsAround c at k → IsBefore at (start_at c (k +ℤ pos 1))
+before_next c at k around = by (start_at c (k +ℤ pos 1)) refl
+  where
+    by : (o : Option ℤ) → start_at c (k +ℤ pos 1) ≡ o → IsBefore at o
+    by None is = tt
+    by (Some end) is = around.late (k +ℤ pos 1) end (omega (arith, ints)) is
 
+-- an on interval that starts no later than a stamp, and ends behind it
+pub span_in : (wanted : WantedPlan) (at k s : ℤ) (start : Option ℤ) → IsLaid wanted.calendar → start_at wanted.calendar k ≡ Some s → s ≤ℤ at
+    → IsBefore at (start_at wanted.calendar (k +ℤ pos 1))
+    → is_on wanted.calendar k ≡ true → start ≡ asked_start wanted (start_at wanted.calendar k)
+    → IsSpan wanted at (record { start = start; end = start_at wanted.calendar (k +ℤ pos 1) })
+span_in wanted at k s start laid from low here on is = record {
+  laid = laid;
+  here = here;
+  inside = λ t stamp after before.
+      ap (asked_start wanted) (held_on wanted.calendar laid k s from on t stamp (omega (arith, ints, low, after)) before) ∙ sym is;
+  bound = bound_next wanted.calendar laid k;
+}
+
+-- the interval around it, if it is on
 pub span_on : (wanted : WantedPlan) (at k : ℤ) (start : Option ℤ) → IsLaid wanted.calendar → IsAround wanted.calendar at k
     → is_on wanted.calendar k ≡ true → start ≡ asked_start wanted (start_at wanted.calendar k)
     → IsSpan wanted at (record { start = start; end = start_at wanted.calendar (k +ℤ pos 1) })
-span_on wanted at k start laid around on is = record {
-  laid = laid;
-  here = before_next wanted.calendar laid at k around;
-  inside = λ t stamp after before. ap (asked_start wanted) (held_on wanted.calendar laid at k around on t stamp after before) ∙ sym is;
-  bound = bound_next wanted.calendar laid at k around;
-}
+span_on wanted at k start laid around on is =
+    let f = on-exists wanted.calendar k on in
+    span_in wanted at k f.0 start laid f.1 (around.early k f.0 (omega (arith, ints)) f.1) (before_next wanted.calendar at k around) on is
 
 -- the first of the starts behind a stamp
 first_of : (xs : List ℤ) (at s : ℤ) → slice_get (filter (λ x. int_lt at x) xs) 0 ≡ Some s → (at <ℤ s) × IsOneOf s xs

@@ -2,12 +2,12 @@
 -- those before it are closed.
 use Rattle.std.specs.Prelude.{◌≡◌, ℕ, ◌+◌, ◌<◌, ◌≤◌, ◌^◌, ℤ, ◌<ℤ◌, ◌≤ℤ◌, int_lt, Bool, true, false, not, ◌&&◌}
 use Rattle.std.specs.Prelude.{if◌then◌else◌, IfSome, Option, Some, None, List, [], ◌∷◌, ◌++◌, length, map, filter}
-use Rattle.std.specs.Prelude.{slice_index, take, drop}
+use Rattle.std.specs.Prelude.{slice_index, take, drop, pos, ◌+ℤ◌}
 use Rattle.std.specs.Int.{w64, from_be_bytes, cast_signed}
-use Rattle.ts_base.specs.Moment.{IsStamp}
+use Rattle.ts_base.specs.Moment.{IsStamp, stamp_if_any}
 use Rattle.ts_row.specs.Row.{Row, Element, seen}
 use Rattle.ts_row.specs.declared.kind.Column.{Column}
-use Rattle.ts_calendar.specs.Calendars.{CalendarPlan, IsBefore, IsLaid}
+use Rattle.ts_calendar.specs.Calendars.{CalendarPlan, IsBefore, IsLaid, start_at}
 use Rattle.ts_sheets.specs.Stamped.{AreEarlier, AreLater}
 use Rattle.ts_offset.specs.Grid.{IsOnStart, held_start}
 use Rattle.ts_entry.specs.declared.stamps.Stamps.{Stamps}
@@ -16,6 +16,7 @@ use Rattle.ts_entry.specs.Entry.{Group, grouped, held_from}
 use Rattle.ts_base.specs.Answer.{most_rows}
 use Rattle.ts_expr.specs.declared.item.BoundItem.{BoundItem}
 use Rattle.ts_expr.specs.Aggregates.{folded_row}
+use Rattle.ts_aggregate.specs.declared.span.Reached.{Reached}
 use Rattle.ts_aggregate.specs.declared.span.Span.{Span}
 use Rattle.ts_aggregate.specs.Fold.{Fold, HasTaken, Takes}
 
@@ -51,6 +52,16 @@ pub record IsSpan (wanted : WantedPlan) (at : ℤ) (span : Span) : Type 0 where
   pub here : IsBefore at span.end
   pub inside : (t : ℤ) → IsStamp t → at ≤ℤ t → IsBefore t span.end → group_start wanted t ≡ span.start
   pub bound : IsBound wanted.calendar span.end
+
+-- each interval of a calendar ends so long after its start, unless that is beyond all stamps
+pub record Lasts (calendar : CalendarPlan) (length : ℤ) : Type 0 where
+  pub low : pos 0 ≤ℤ length
+  pub high : length ≤ℤ pos 100_000_000_000_000_000
+  pub next : (k s : ℤ) → start_at calendar k ≡ Some s → start_at calendar (k +ℤ pos 1) ≡ stamp_if_any (s +ℤ length)
+
+-- the interval behind stamps that were reached, if it is known, starts at their end
+abbrev pub IsBehind : CalendarPlan → Reached → Type 0
+IsBehind calendar reached = IfSome reached.next (λ k. start_at calendar k ≡ reached.span.end)
 
 -- each of the elements stands before an end
 abbrev pub AreWithin : Option ℤ → List Element → Type 0

@@ -1,6 +1,7 @@
 // One that groups the elements that it is handed.
 ghost use Rattle.std.specs.Prelude.{◌≡◌, ℕ, ◌+◌, ◌-◌, ◌*◌, ◌^◌, ◌<◌, ◌≤◌, min, [], ◌∷◌, Option, None, Some, OnOk, IfOk, List};
 ghost use Rattle.std.specs.Prelude.{ℤ, length, map, take};
+ghost use Rattle.std.proofs.Props.{props};
 ghost use Rattle.ts_row.specs.Row.{Row as TheRow, Element, width_of};
 ghost use Rattle.ts_calendar.specs.Calendars.{IsBefore};
 ghost use Rattle.ts_entry.specs.Stamps.{HasStamp, IsNear};
@@ -8,17 +9,18 @@ ghost use Rattle.ts_entry.specs.Rows.{IsCellWith, AreCellsWith, AreStamped, elem
 ghost use Rattle.ts_base.specs.Answer.{most_rows};
 ghost use Rattle.ts_aggregate.specs.Column.{AreRowCells};
 ghost use Rattle.ts_aggregate.specs.Fold.{HasTaken};
-ghost use Rattle.ts_aggregate.specs.Groups.{AreGrouped, grouping, is_seen, IsAhead, IsClosed, IsReady, MayTake, Stands};
+ghost use Rattle.ts_aggregate.specs.Groups.{AreGrouped, grouping, is_seen, IsAhead, IsBehind, IsClosed, IsReady, MayTake, Stands};
 
 use crate::Folding;
 use crate::cells::RowCells;
 use crate::run::{Piece, cells_before};
-use crate::span::{Span, is_before};
+use crate::span::{Reached, is_before};
 use crate::wanted::WantedIntervals;
 use std::alloc::AllocError;
+use std::mem;
 use ts_base::Stamp;
 use ts_entry::{ElementVisitor, RowVisitor, Stamps};
-use ts_row::{Row, RowType};
+use ts_row::{Row, RowType, Value};
 
 /// The most rows of a reply.
 pub(crate) const MOST_ROWS: u64 = 1_000_000;
@@ -30,13 +32,16 @@ pub(crate) const MOST_ROWS: u64 = 1_000_000;
 pub(crate) struct ByInterval<'a, 'b, V> {
     wanted: &'a WantedIntervals<'a>,
     /// That of the last element.
-    span: Span,
+    reached: Reached,
     folding: &'a mut Folding<'b>,
     out: &'a mut V,
     /// How many groups are closed.
     count: u64,
     /// How many cells the last piece had.
     mostly: usize,
+    /// Memory for the values of a row.
+    room: &'a mut Vec<Value>,
+    ghost behind: { IsBehind wanted.now.calendar reached } by { Prim.hlevel props },
 }
 
 impl<'a, 'b, V: ElementVisitor> ByInterval<'a, 'b, V> {
@@ -45,23 +50,25 @@ impl<'a, 'b, V: ElementVisitor> ByInterval<'a, 'b, V> {
         wanted: &'a WantedIntervals<'a>,
         folding: &'a mut Folding<'b>,
         out: &'a mut V,
+        room: &'a mut Vec<Value>,
     ) -> ByInterval<'a, 'b, V>
         ensures same { result.out.ghost_name ≡ out.entry.ghost_name }
         ensures none { result.out.now ≡ out.old }
         ensures wanted { result.wanted.now ≡ wanted.now }
         ensures fold { result.folding.now ≡ folding.old }
-        ensures start { result.span.start ≡ None }
+        ensures start { result.reached.span.start ≡ None }
         ensures stands { HasTaken folding.old []
-            → Stands (grouping result.wanted.now result.span result.folding.now result.count) [] }
+            → Stands (grouping result.wanted.now result.reached.span result.folding.now result.count) [] }
     {
-        let span = wanted.first_span();
+        let reached = wanted.first();
         ByInterval {
             wanted,
-            span,
+            reached,
             folding,
             out,
             count: 0,
             mostly: 1,
+            room,
         }
     }
 
@@ -70,8 +77,8 @@ impl<'a, 'b, V: ElementVisitor> ByInterval<'a, 'b, V> {
         ensures same { self.new.out.ghost_name ≡ self.old.out.ghost_name }
         ensures count { IfOk result (λ count. count ≡ self.new.count) }
         ensures closed { OnOk result (IsClosed V.took
-            (grouping self.old.wanted.now self.old.span self.old.folding.now self.old.count) self.old.out.now
-            (grouping self.new.wanted.now self.new.span self.new.folding.now self.new.count) self.new.out.now) }
+            (grouping self.old.wanted.now self.old.reached.span self.old.folding.now self.old.count) self.old.out.now
+            (grouping self.new.wanted.now self.new.reached.span self.new.folding.now self.new.count) self.new.out.now) }
     {
         self.close()?;
         Ok(self.count)
@@ -81,15 +88,19 @@ impl<'a, 'b, V: ElementVisitor> ByInterval<'a, 'b, V> {
     #[inline(always)]
     fn close(&mut self) -> Result<(), AllocError>
         ensures same { self.new.out.ghost_name ≡ self.old.out.ghost_name }
+        ensures reached { self.new.reached ≡ self.old.reached }
         ensures closed { OnOk result (IsClosed V.took
-            (grouping self.old.wanted.now self.old.span self.old.folding.now self.old.count) self.old.out.now
-            (grouping self.new.wanted.now self.new.span self.new.folding.now self.new.count) self.new.out.now) }
+            (grouping self.old.wanted.now self.old.reached.span self.old.folding.now self.old.count) self.old.out.now
+            (grouping self.new.wanted.now self.new.reached.span self.new.folding.now self.new.count) self.new.out.now) }
     {
-        let Some(start) = self.span.start else {
+        let Some(start) = self.reached.span.start else {
             return Ok(());
         };
-        let row = self.folding.finish()?;
+        self.folding.finish_in(&mut *self.room)?;
+        let empty = self.folding.no_values();
+        let row = Row::of(mem::replace(&mut *self.room, empty));
         self.hand_on(start, &row)?;
+        *self.room = row.into_values();
         Ok(())
     }
 
@@ -97,6 +108,7 @@ impl<'a, 'b, V: ElementVisitor> ByInterval<'a, 'b, V> {
     fn hand_on(&mut self, start: Stamp, row: &Row) -> Result<(), AllocError>
         ensures same { self.new.out.ghost_name ≡ self.old.out.ghost_name }
         ensures wanted { self.new.wanted.now ≡ self.old.wanted.now }
+        ensures reached { self.new.reached ≡ self.old.reached }
         ensures fold { self.new.folding.now ≡ self.old.folding.now }
         ensures count { self.new.count ≡ min (self.old.count + 1) (2 ^ 64 - 1) }
         ensures more { self.old.count ≤ self.new.count }
@@ -114,34 +126,33 @@ impl<'a, 'b, V: ElementVisitor> ByInterval<'a, 'b, V> {
     fn reach(&mut self, stamp: Stamp) -> Result<(), AllocError>
         ensures same { self.new.out.ghost_name ≡ self.old.out.ghost_name }
         ensures ready { OnOk result (IsReady V.took
-            (grouping self.old.wanted.now self.old.span self.old.folding.now self.old.count) self.old.out.now stamp
-            (grouping self.new.wanted.now self.new.span self.new.folding.now self.new.count) self.new.out.now) }
-        ensures here { OnOk result (IsBefore stamp self.new.span.end) }
+            (grouping self.old.wanted.now self.old.reached.span self.old.folding.now self.old.count) self.old.out.now stamp
+            (grouping self.new.wanted.now self.new.reached.span self.new.folding.now self.new.count) self.new.out.now) }
+        ensures here { OnOk result (IsBefore stamp self.new.reached.span.end) }
     {
-        if is_before(stamp, self.span.end) {
+        if is_before(stamp, self.reached.span.end) {
             return Ok(());
         }
         self.close()?;
-        self.span = self.wanted.span_from(stamp);
+        let _stamp = stamp.units();
+        self.reached = self.wanted.reach(stamp, self.reached);
         Ok(())
     }
 
     // Folds the rows in cells, where a group is open.
-    fn fold(&mut self, kind: &RowType, cells: &[u8], front: usize) -> Result<(), AllocError>
-        requires front { 0 < front }
-        requires whole { (n : ℕ) × (length cells.now ≡ n * (front + width_of kind.now.columns)) }
-        requires few { length cells.now ≤ 4064 }
+    fn fold(&mut self, kind: &RowType, cells: RowCells<'_>) -> Result<(), AllocError>
+        requires { AreRowCells kind.now.columns cells }
         ensures same { self.new.out.ghost_name ≡ self.old.out.ghost_name }
         ensures out { self.new.out.now ≡ self.old.out.now }
         ensures wanted { self.new.wanted.now ≡ self.old.wanted.now }
-        ensures span { self.new.span ≡ self.old.span }
+        ensures span { self.new.reached.span ≡ self.old.reached.span }
         ensures count { self.new.count ≡ self.old.count }
         ensures takes { OnOk result ((found : List (Option TheRow))
-            → AreCellsWith kind.now.columns front cells.now found
-            → MayTake self.old.span.start kind.now.columns self.old.folding.now (rows_in found) self.new.folding.now) }
+            → AreCellsWith kind.now.columns cells.entry.front cells.entry.bytes.now found
+            → MayTake self.old.reached.span.start kind.now.columns self.old.folding.now (rows_in found) self.new.folding.now) }
     {
-        if self.span.start.is_some() {
-            self.folding.take(kind, cells, front)?;
+        if self.reached.span.start.is_some() {
+            self.folding.take_cells(kind, cells)?;
         }
         Ok(())
     }
@@ -168,9 +179,9 @@ impl<'a, 'b, V: ElementVisitor> ByInterval<'a, 'b, V> {
             → AreCellsWith kind.now.columns cells.entry.front cells.entry.bytes.now (map row_if_any found)
             → AreStamped stamps.now cells.entry.size number cells.entry.bytes.now found
             → AreGrouped V.took kind.now.columns
-            (grouping self.old.wanted.now self.old.span self.old.folding.now self.old.count)
+            (grouping self.old.wanted.now self.old.reached.span self.old.folding.now self.old.count)
             self.old.out.now (elements_in (take p.count found))
-            (grouping self.new.wanted.now self.new.span self.new.folding.now self.new.count) self.new.out.now) }
+            (grouping self.new.wanted.now self.new.reached.span self.new.folding.now self.new.count) self.new.out.now) }
     {
         let (cell, _) = cells.bytes.split_at(cells.size);
         if !is_shown(kind, cell, cells.front) {
@@ -186,10 +197,16 @@ impl<'a, 'b, V: ElementVisitor> ByInterval<'a, 'b, V> {
             });
         };
         self.reach(stamp)?;
-        let piece = cells_before(cells, stamps, number, self.span.end, self.mostly);
+        let piece = cells_before(cells, stamps, number, self.reached.span.end, self.mostly);
         self.mostly = piece.count;
         let (part, _) = cells.bytes.split_at(piece.count * cells.size);
-        self.fold(kind, part, cells.front)?;
+        let taken = RowCells {
+            size: cells.size,
+            front: cells.front,
+            left: piece.count,
+            bytes: part,
+        };
+        self.fold(kind, taken)?;
         Ok(piece)
     }
 }
@@ -223,8 +240,8 @@ impl<'a, 'b, V: ElementVisitor> RowVisitor for ByInterval<'a, 'b, V> {
     ghost use Rattle.ts_aggregate.specs.GroupLaws.{grouped_none, grouped_then};
 
     ghost took = { λ columns v es w. (w.out.ghost_name ≡ v.out.ghost_name)
-        × AreGrouped V.took columns (grouping v.wanted.now v.span v.folding.now v.count) v.out.now es
-        (grouping w.wanted.now w.span w.folding.now w.count) w.out.now };
+        × AreGrouped V.took columns (grouping v.wanted.now v.reached.span v.folding.now v.count) v.out.now es
+        (grouping w.wanted.now w.reached.span w.folding.now w.count) w.out.now };
 
     fn rows(
         &mut self,
@@ -259,12 +276,12 @@ impl<'a, 'b, V: ElementVisitor> RowVisitor for ByInterval<'a, 'b, V> {
     }
 
     ghost none = { λ columns v.
-        (refl, grouped_none V.took V.none columns (grouping v.wanted.now v.span v.folding.now v.count) v.out.now) };
+        (refl, grouped_none V.took V.none columns (grouping v.wanted.now v.reached.span v.folding.now v.count) v.out.now) };
 
     ghost then = { λ columns a b c es fs p q. (
       q.0 ∙ p.0,
-      grouped_then V.took V.then columns (grouping a.wanted.now a.span a.folding.now a.count)
-          (grouping b.wanted.now b.span b.folding.now b.count) (grouping c.wanted.now c.span c.folding.now c.count)
+      grouped_then V.took V.then columns (grouping a.wanted.now a.reached.span a.folding.now a.count)
+          (grouping b.wanted.now b.reached.span b.folding.now b.count) (grouping c.wanted.now c.reached.span c.folding.now c.count)
           a.out.now b.out.now c.out.now es fs p.1 q.1,
     ) };
 }

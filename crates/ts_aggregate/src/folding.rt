@@ -1,8 +1,8 @@
 // A fold of rows in their bytes.
-ghost use Rattle.std.specs.Prelude.{◌≡◌, ℕ, ◌+◌, ◌*◌, ◌≤◌, ◌<◌, [], ◌++◌, IfOk, OnOk, IsTrue, All, List, Option};
+ghost use Rattle.std.specs.Prelude.{◌≡◌, ℕ, ◌+◌, ◌*◌, ◌≤◌, ◌<◌, [], ◌∷◌, ◌++◌, IfOk, OnOk, IsTrue, All, List, Option};
 ghost use Rattle.std.specs.Prelude.{if◌then◌else◌, length, map, take};
 ghost use Rattle.std.specs.List.{list_all};
-ghost use Rattle.ts_row.specs.Row.{Row as TheRow, is_kind, width_of};
+ghost use Rattle.ts_row.specs.Row.{Row as TheRow, is_kind, visible, width_of};
 ghost use Rattle.ts_entry.specs.Rows.{AreCellsWith, rows_in};
 ghost use Rattle.ts_expr.specs.Aggregates.{folded_row};
 ghost use Rattle.ts_expr.specs.Running.{after, value_of};
@@ -46,30 +46,40 @@ impl<'a> Folding<'a> {
     }
 
     /// What the items make of the rows that it has taken, of which the sums of 2^32 fit. It then has taken none.
-    #[inline(always)]
     pub fn finish(&mut self) -> Result<Row, AllocError>
         ensures made { IfOk result (λ row. (rows : List TheRow) → HasTaken self.old rows → length rows ≤ most_folded
             → row ≡ folded_row self.old.binding.items rows) }
         ensures same { self.new.binding ≡ self.old.binding }
         ensures none { OnOk result (HasTaken self.new []) }
     {
-        let values = renew_all(
-            *self.tallies.allocator(),
-            self.bound.items(),
-            &mut self.tallies,
-        )?;
+        let mut values = Vec::with_capacity(*self.tallies.allocator(), self.bound.items().len())?;
+        self.finish_in(&mut values)?;
         Ok(Row::of(values))
+    }
+
+    /// The same, where the values of the row stand in the memory of a list.
+    #[inline(always)]
+    pub(crate) fn finish_in(&mut self, values: &mut Vec<Value>) -> Result<(), AllocError>
+        ensures made { OnOk result ((rows : List TheRow) → HasTaken self.old rows → length rows ≤ most_folded
+            → visible values.new.items ≡ folded_row self.old.binding.items rows) }
+        ensures same { self.new.binding ≡ self.old.binding }
+        ensures none { OnOk result (HasTaken self.new []) }
+    {
+        renew_all(self.bound.items(), &mut self.tallies, values)?;
+        Ok(())
+    }
+
+    /// A list with no values.
+    pub(crate) fn no_values(&self) -> Vec<Value>
+        ensures { result.items ≡ [] }
+    {
+        Vec::new(*self.tallies.allocator())
     }
 }
 
 impl<'a> Folding<'a> {
     /// Takes the rows in cells that stand one behind the other, in each behind so many bytes, hidden ones too.
-    pub(crate) fn take(
-        &mut self,
-        kind: &RowType,
-        cells: &[u8],
-        front: usize,
-    ) -> Result<(), AllocError>
+    fn take(&mut self, kind: &RowType, cells: &[u8], front: usize) -> Result<(), AllocError>
         requires front { 0 < front }
         requires whole { (n : ℕ) × (length cells.now ≡ n * (front + width_of kind.now.columns)) }
         requires few { length cells.now ≤ 4064 }
@@ -79,9 +89,6 @@ impl<'a> Folding<'a> {
         if cells.is_empty() {
             return Ok(());
         }
-        if kind.width() != self.bound.kind().width() {
-            return Ok(());
-        }
         let size = front + kind.width();
         let row_cells = RowCells {
             size,
@@ -89,12 +96,29 @@ impl<'a> Folding<'a> {
             left: cells.len() / size,
             bytes: cells,
         };
+        self.take_cells(kind, row_cells)
+    }
+
+    /// The same where it is known how many cells they are.
+    pub(crate) fn take_cells(
+        &mut self,
+        kind: &RowType,
+        cells: RowCells<'_>,
+    ) -> Result<(), AllocError>
+        requires { AreRowCells kind.now.columns cells }
+        ensures took { OnOk result ((found : List (Option TheRow))
+            → AreCellsWith kind.now.columns cells.entry.front cells.entry.bytes.now found
+            → Takes kind.now.columns self.old (rows_in found) self.new) }
+    {
+        if kind.width() != self.bound.kind().width() {
+            return Ok(());
+        }
         let alloc = *self.tallies.allocator();
         take_items(
             alloc,
             self.bound.items(),
             self.bound.kind().columns(),
-            row_cells,
+            cells,
             &mut self.tallies,
         )
     }
@@ -122,23 +146,40 @@ impl<'a> RowVisitor for Folding<'a> {
     ghost then = { λ columns a b c es others p q. elements_taken columns a b c es others p q };
 }
 
-// What the items make of what is known of the rows; then nothing is known.
+// What the items make of what is known of the rows, in place of some values; then nothing is known.
 #[inline(always)]
 fn renew_all(
-    alloc: Global,
     items: &[BoundItem],
     tallies: &mut [Tally],
-) -> Result<Vec<Value>, AllocError>
+    values: &mut Vec<Value>,
+) -> Result<(), AllocError>
     requires { AreTallies items.now tallies.old }
     ensures kept { AreTallies items.now tallies.new }
-    ensures value { IfOk result (λ values. values.items ≡ map value_of tallies.old) }
+    ensures value { OnOk result (values.new.items ≡ map value_of tallies.old) }
     ensures none { OnOk result (tallies.new ≡ after items.now []) }
 {
-    let mut values = Vec::with_capacity(alloc, items.len())?;
+    values.truncate(items.len());
     for (number, item) in items.iter().enumerate() {
-        values.push(tallies[number].renew(item.function))?;
+        let value = tallies[number].renew(item.function);
+        put(values, number, value)?;
     }
-    Ok(values)
+    Ok(())
+}
+
+// Puts a value in its place among some, or behind them.
+#[inline(always)]
+fn put(values: &mut Vec<Value>, number: usize, value: Value) -> Result<(), AllocError>
+    requires { number ≤ length values.old.items }
+    ensures items { OnOk result (take (number + 1) values.new.items ≡ take number values.old.items ++ value ∷ []) }
+    ensures there { OnOk result (number + 1 ≤ length values.new.items) }
+    ensures most { OnOk result ((n : ℕ) → length values.old.items ≤ n → number < n → length values.new.items ≤ n) }
+{
+    if number < values.len() {
+        values[number] = value;
+        return Ok(());
+    }
+    values.push(value)?;
+    Ok(())
 }
 
 // Each item takes the values of its column. Items of one column that stand beside each other look at its cells once.

@@ -56,7 +56,8 @@ pub fn aggregate_by<P: Pages, V: ElementVisitor>(
     let _places = space.places(shelf.series);
     let wanted = WantedIntervals::new(calendar, from, to);
     let last = wanted.last();
-    let mut groups = ByInterval::new(&wanted, folding, visitor);
+    let mut room = folding.no_values();
+    let mut groups = ByInterval::new(&wanted, folding, visitor, &mut room);
     rows(pages, page, space, shelf, shape, from, last, &mut groups)?;
     let count = groups.end()?;
     if count > MOST_ROWS {

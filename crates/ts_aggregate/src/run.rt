@@ -160,6 +160,8 @@ fn piece_before(grid: &Grid<'_>, offset: u64, left: usize, end: Stamp, mostly: u
         if let Some(piece) = lone_piece(grid, offset, end) {
             return piece;
         }
+    } else if let Some(piece) = whole_piece(grid, offset, left, end, mostly) {
+        return piece;
     } else if let Some(piece) = usual_piece(grid, offset, left, end, mostly) {
         return piece;
     }
@@ -184,6 +186,37 @@ fn lone_piece(grid: &Grid<'_>, offset: u64, end: Stamp) -> Option<Piece>
         count: 1,
         next: Some(next),
     })
+}
+
+// The piece of as many as they mostly are, where the next cell stands at the end.
+fn whole_piece(
+    grid: &Grid<'_>,
+    offset: u64,
+    left: usize,
+    end: Stamp,
+    mostly: usize,
+) -> Option<Piece>
+    requires some { 0 < mostly }
+    requires limit { offset + left < 2 ^ 64 }
+    ensures low { IfSome result (λ p. 1 ≤ p.count) }
+    ensures high { IfSome result (λ p. p.count ≤ left) }
+    ensures before { IfSome result (λ p. (k : ℕ) (s : ℤ) → IsLaid grid.now.calendar → 0 < k → k < p.count
+        → stamp_of grid.now (offset + k) ≡ Some s → s <ℤ end) }
+    ensures next { IfSome result (λ p. IfSome p.next (λ s. stamp_of grid.now (offset + p.count) ≡ Some s)) }
+{
+    if left < mostly {
+        return None;
+    }
+    let mut starts = grid.starts_from(offset + mostly as u64);
+    let next = starts.next()?;
+    if next.units() == end.units() {
+        let count = mostly;
+        return Some(Piece {
+            count,
+            next: Some(next),
+        });
+    }
+    None
 }
 
 // The piece of as many as they mostly are, where it is that: its last cell stands before the end, and the next one

@@ -13,6 +13,25 @@ pub(crate) struct Span {
     pub end: Option<Stamp>,
 }
 
+/// Stamps that were reached among those that follow one another.
+#[derive(Clone, Copy, Debug)]
+pub(crate) struct Reached {
+    pub span: Span,
+    /// The last on interval that was reached.
+    pub interval: i64,
+    /// The one that starts at the end of the stamps, where the last two were neighbours: the next may be one, too.
+    pub next: Option<i64>,
+}
+
+impl Reached {
+    /// Whether a stamp stands before their end.
+    pub(crate) fn is_of(&self, stamp: Stamp) -> bool
+        ensures { IsTrue result ↔ IsBefore stamp self.now.span.end }
+    {
+        is_before(stamp, self.span.end)
+    }
+}
+
 /// Whether a stamp comes before an end, if there is one.
 pub(crate) fn is_before(stamp: Stamp, end: Option<Stamp>) -> bool
     ensures { IsTrue result ↔ IsBefore stamp end }

@@ -9,7 +9,9 @@ abbrev pub invariant-loop-number : goal.invariant-loop-number
 invariant-loop-number l = record {
   size : length l.tallies ≡ length l.items;
   few : All (λ t. count_of t ≤ 2 ^ 32) l.tallies;
-  values : l.values.items ≡ map value_of (take l.number l.initial.tallies);
+  values : take l.number l.values.items ≡ map value_of (take l.number l.initial.tallies);
+  there : l.number ≤ length l.values.items;
+  most : length l.values.items ≤ length l.items;
   none : (k : ℕ) (d : Tally) → k < l.number → get_or l.tallies k d ≡ known (get_or l.items k an_item) [];
   rest : (k : ℕ) (d : Tally) → l.number ≤ k → get_or l.tallies k d ≡ get_or l.initial.tallies k d;
 }

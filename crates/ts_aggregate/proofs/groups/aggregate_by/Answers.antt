@@ -21,8 +21,8 @@ returns-then-count-gt-MOST_ROWS-clause-read g c = λ told es have own empty.
     c.args.folding.now c.args.visitor.now _
     _ v.out.ghost_name w.out.ghost_name u.out.ghost_name last
     (subst (λ (a : WantedPlan). (t s : ℤ) → IsStamp t → last <ℤ t → held_start a.calendar t ≡ Some s → a.to <ℤ s) made c.last-last.ensures)
-    (grouping v.wanted.now v.span v.folding.now v.count) (grouping w.wanted.now w.span w.folding.now w.count)
-    (grouping u.wanted.now u.span u.folding.now u.count)
+    (grouping v.wanted.now v.reached.span v.folding.now v.count) (grouping w.wanted.now w.reached.span w.folding.now w.count)
+    (grouping u.wanted.now u.reached.span u.folding.now u.count)
     v.out.now w.out.now u.out.now es c.new-groups.ensures.same c.new-groups.ensures.none
     (c.new-groups.ensures.wanted ∙ made) c.new-groups.ensures.fold c.new-groups.ensures.start
     (c.new-groups.ensures.stands empty) (c.in_ok-rows.ensures.read told es have) c.in_ok-count.ensures.same
@@ -43,8 +43,8 @@ returns-clause-read g c = λ told es have own empty.
     c.args.folding.now c.args.visitor.now _
     _ v.out.ghost_name w.out.ghost_name u.out.ghost_name last
     (subst (λ (a : WantedPlan). (t s : ℤ) → IsStamp t → last <ℤ t → held_start a.calendar t ≡ Some s → a.to <ℤ s) made c.last-last.ensures)
-    (grouping v.wanted.now v.span v.folding.now v.count) (grouping w.wanted.now w.span w.folding.now w.count)
-    (grouping u.wanted.now u.span u.folding.now u.count)
+    (grouping v.wanted.now v.reached.span v.folding.now v.count) (grouping w.wanted.now w.reached.span w.folding.now w.count)
+    (grouping u.wanted.now u.reached.span u.folding.now u.count)
     v.out.now w.out.now u.out.now es c.new-groups.ensures.same c.new-groups.ensures.none
     (c.new-groups.ensures.wanted ∙ made) c.new-groups.ensures.fold c.new-groups.ensures.start
     (c.new-groups.ensures.stands empty) (c.in_ok-rows.ensures.read told es have) c.in_ok-count.ensures.same

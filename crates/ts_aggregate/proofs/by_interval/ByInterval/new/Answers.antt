@@ -3,5 +3,5 @@ use Rattle.ts_aggregate.proofs.by_interval.ByInterval.new.Goals as goal
 
 pub returns-clause-stands : goal.returns-clause-stands
 returns-clause-stands g c = λ empty.
-    stands_none c.args.wanted.now c.first_span-span.result c.args.folding.now c.first_span-span.ensures.none
-    c.first_span-span.ensures.going empty
+    stands_none c.args.wanted.now c.first-reached.result.span c.args.folding.now c.first-reached.ensures.none
+    c.first-reached.ensures.going empty

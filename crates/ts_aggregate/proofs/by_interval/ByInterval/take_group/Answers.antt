@@ -1,4 +1,4 @@
-use Rattle.std.proofs.Common.{◌*◌, ℕ, List, length, map, take, sym, ap, subst, ◌∙◌, arith, length-take-le}
+use Rattle.std.proofs.Common.{◌≡◌, ◌*◌, ℕ, List, length, map, take, sym, ap, subst, ◌∙◌, arith, length-take-le}
 use Rattle.ts_row.specs.declared.kind.Column.{Column}
 use Rattle.ts_entry.specs.Stamps.{HasStamp}
 use Rattle.ts_entry.specs.Rows.{AreCellsWith, IsCellWith, row_if_any}
@@ -18,36 +18,29 @@ split_at-requires-2 g c =
     let r = c.args.cells in
     some_fit c.cells_before-piece.result.count r.left r.size (length r.bytes.now) c.cells_before-piece.ensures.high c.requires.whole.whole
 
-pub fold-requires-clause-whole : goal.fold-requires-clause-whole
-fold-requires-clause-whole g c =
+pub fold-requires : goal.fold-requires
+fold-requires g c =
     let r = c.args.cells in
-    let count = c.cells_before-piece.result.count in (
-      count,
-      ap length c.split_at-2.ensures.front
-          ∙ length-take-le (count * r.size) r.bytes.now
-          (some_fit count r.left r.size (length r.bytes.now) c.cells_before-piece.ensures.high c.requires.whole.whole)
-          ∙ ap (λ (n : ℕ). count * n) c.requires.whole.size,
-    )
-
-pub fold-requires-clause-few : goal.fold-requires-clause-few
-fold-requires-clause-few g c =
-    let r = c.args.cells in
+    let all = c.requires.whole in
     let count = c.cells_before-piece.result.count in
-    omega (
-      arith,
-      ap length c.split_at-2.ensures.front,
-      length-take-le (count * r.size) r.bytes.now
-          (some_fit count r.left r.size (length r.bytes.now) c.cells_before-piece.ensures.high c.requires.whole.whole),
-      some_fit count r.left r.size (length r.bytes.now) c.cells_before-piece.ensures.high c.requires.whole.whole,
-      c.requires.whole.few,
-    )
+    let fit = some_fit count r.left r.size (length r.bytes.now) c.cells_before-piece.ensures.high all.whole in
+    let size : length c.split_at-2.result.0.now ≡ count * r.size =
+    ap length c.split_at-2.ensures.front ∙ length-take-le (count * r.size) r.bytes.now fit in
+    record {
+      some = all.some;
+      size = all.size;
+      whole = size;
+      narrow = all.narrow;
+      small = all.small;
+      few = omega (arith, size, fit, all.few);
+    }
 
 pub returns-then-not-is_shown-clause-took : goal.returns-then-not-is_shown-clause-took
 returns-then-not-is_shown-clause-took g c = λ found are stamped.
     let v = c.args.self.now in
     let r = c.args.cells in
     none_taken g.V.ElementVisitor.took g.met.V.ElementVisitor.none c.args.kind.now.columns r.front r.size r.bytes.now found
-    (grouping v.wanted.now v.span v.folding.now v.count) v.out.now c.requires.whole.size
+    (grouping v.wanted.now v.reached.span v.folding.now v.count) v.out.now c.requires.whole.size
     (λ f is. sym (c.is_shown.ensures f (subst (λ (l : List ℕ). IsCellWith c.args.kind.now.columns r.front l f) (sym c.split_at.ensures.front) is))
     ∙ c.if-not-is_shown.true)
     are
@@ -57,7 +50,7 @@ returns-in_default-clause-took g c = λ found are stamped.
     let v = c.args.self.now in
     let r = c.args.cells in
     none_stamped g.V.ElementVisitor.took g.met.V.ElementVisitor.none c.args.kind.now.columns r.front r.size c.args.number c.args.stamps.now
-    r.bytes.now found (grouping v.wanted.now v.span v.folding.now v.count) v.out.now c.stamp_at.result c.in_default.is
+    r.bytes.now found (grouping v.wanted.now v.reached.span v.folding.now v.count) v.out.now c.stamp_at.result c.in_default.is
     (λ s has. c.stamp_at.ensures s (subst (λ (l : List ℕ). HasStamp c.args.stamps.now c.args.number l s) (sym c.split_at.ensures.front) has)) stamped
 
 pub returns-clause-took : goal.returns-clause-took
@@ -70,8 +63,8 @@ returns-clause-took g c = λ found are stamped.
     let r = c.args.cells in
     let count = c.cells_before-piece.result.count in
     piece_taken g.V.ElementVisitor.took columns r.front r.size c.args.number c.args.stamps.now r.bytes.now
-    (grouping v.wanted.now v.span v.folding.now v.count) (grouping u.wanted.now u.span u.folding.now u.count)
-    (grouping w.wanted.now w.span w.folding.now w.count) v.out.now u.out.now w.out.now c.in-Some.stamp c.stamp_at.result
+    (grouping v.wanted.now v.reached.span v.folding.now v.count) (grouping u.wanted.now u.reached.span u.folding.now u.count)
+    (grouping w.wanted.now w.reached.span w.folding.now w.count) v.out.now u.out.now w.out.now c.in-Some.stamp c.stamp_at.result
     (omega (arith, one_fits r.left r.size (length r.bytes.now) c.requires.some c.requires.whole.whole, c.requires.whole.size, c.requires.whole.some))
     c.requires.whole.size
     (λ f is. sym (c.is_shown.ensures f (subst (λ (l : List ℕ). IsCellWith columns r.front l f) (sym c.split_at.ensures.front) is))

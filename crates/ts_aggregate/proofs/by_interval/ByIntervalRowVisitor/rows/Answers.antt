@@ -18,10 +18,10 @@ returns-then-is_empty g c =
       took = λ found are. (
         refl,
         turn_last g.V.ElementVisitor.took g.met.V.ElementVisitor.none g.met.V.ElementVisitor.«then» c.args.kind.now.columns c.args.front
-            c.args.stamps.now found (grouping v.wanted.now v.span v.folding.now v.count) v.out.now 0 c.args.cells.now
-            (grouping v.wanted.now v.span v.folding.now v.count) v.out.now none
+            c.args.stamps.now found (grouping v.wanted.now v.reached.span v.folding.now v.count) v.out.now 0 c.args.cells.now
+            (grouping v.wanted.now v.reached.span v.folding.now v.count) v.out.now none
             (turn_first g.V.ElementVisitor.took g.met.V.ElementVisitor.none g.met.V.ElementVisitor.«then» c.args.kind.now.columns c.args.front
-            c.args.stamps.now found (grouping v.wanted.now v.span v.folding.now v.count) v.out.now c.args.cells.now are),
+            c.args.stamps.now found (grouping v.wanted.now v.reached.span v.folding.now v.count) v.out.now c.args.cells.now are),
       );
     }
 
@@ -43,7 +43,7 @@ loop-left-init g c =
       same = refl;
       ahead = tt;
       taken = λ found are. turn_first g.V.ElementVisitor.took g.met.V.ElementVisitor.none g.met.V.ElementVisitor.«then»
-          c.args.kind.now.columns c.args.front c.args.stamps.now found (grouping v.wanted.now v.span v.folding.now v.count) v.out.now
+          c.args.kind.now.columns c.args.front c.args.stamps.now found (grouping v.wanted.now v.reached.span v.folding.now v.count) v.out.now
           c.args.cells.now are;
     }
 
@@ -83,9 +83,9 @@ loop-left-preserved g c =
       same = done.same ∙ i.same;
       ahead = done.next;
       taken = λ found are. turn_next g.V.ElementVisitor.took g.met.V.ElementVisitor.none g.met.V.ElementVisitor.«then» columns c.args.front
-          c.args.stamps.now found (grouping v.wanted.now v.span v.folding.now v.count) v.out.now c.loop-left.number count (count * size)
-          c.loop-left.rest.now c.split_at.result.1.now (grouping w.wanted.now w.span w.folding.now w.count)
-          (grouping u.wanted.now u.span u.folding.now u.count) w.out.now u.out.now (ap (λ (k : ℕ). count * k) same) c.split_at.ensures.back
+          c.args.stamps.now found (grouping v.wanted.now v.reached.span v.folding.now v.count) v.out.now c.loop-left.number count (count * size)
+          c.loop-left.rest.now c.split_at.result.1.now (grouping w.wanted.now w.reached.span w.folding.now w.count)
+          (grouping u.wanted.now u.reached.span u.folding.now u.count) w.out.now u.out.now (ap (λ (k : ℕ). count * k) same) c.split_at.ensures.back
           (i.taken found are)
           (λ others rows stamped. done.took others rows
           (subst (λ (k : ℕ). AreStamped c.args.stamps.now k c.loop-left.number c.loop-left.rest.now others) (sym same) stamped));
@@ -101,8 +101,8 @@ returns g c =
       took = λ found are. (
         i.same,
         turn_last g.V.ElementVisitor.took g.met.V.ElementVisitor.none g.met.V.ElementVisitor.«then» c.args.kind.now.columns c.args.front
-            c.args.stamps.now found (grouping v.wanted.now v.span v.folding.now v.count) v.out.now c.loop-left.number c.loop-left.rest.now
-            (grouping w.wanted.now w.span w.folding.now w.count) w.out.now
+            c.args.stamps.now found (grouping v.wanted.now v.reached.span v.folding.now v.count) v.out.now c.loop-left.number c.loop-left.rest.now
+            (grouping w.wanted.now w.reached.span w.folding.now w.count) w.out.now
             (none_left c.loop-left.left size (length c.loop-left.rest.now) (omega (arith, c.loop-left-test.false)) i.whole)
             (i.taken found are),
       );

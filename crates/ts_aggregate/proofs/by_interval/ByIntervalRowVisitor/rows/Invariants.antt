@@ -15,8 +15,8 @@ invariant-loop-left g l = record {
   ahead : IsAhead l.stamps l.number l.ahead;
   taken : (found : List (Option Element)) → AreCellsOf l.kind.columns l.front l.stamps l.cells found
       → Turn g.V.ElementVisitor.took l.kind.columns l.front l.number l.stamps l.rest found
-      (grouping l.fn.self.wanted.now l.fn.self.span l.fn.self.folding.now l.fn.self.count) l.fn.self.out.now
-      (grouping l.self.wanted.now l.self.span l.self.folding.now l.self.count) l.self.out.now;
+      (grouping l.fn.self.wanted.now l.fn.self.reached.span l.fn.self.folding.now l.fn.self.count) l.fn.self.out.now
+      (grouping l.self.wanted.now l.self.reached.span l.self.folding.now l.self.count) l.self.out.now;
 }
 
 abbrev pub decreases-loop-left : goal.decreases-loop-left

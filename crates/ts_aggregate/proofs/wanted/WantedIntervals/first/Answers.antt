@@ -2,7 +2,7 @@ use Rattle.std.proofs.Common.{[], None, Some, ℤ, ◌∙◌, sym, ap, subst}
 use Rattle.ts_calendar.specs.Calendars.{CalendarPlan}
 use Rattle.ts_aggregate.specs.Groups.{WantedPlan, IsGoingOn}
 use Rattle.ts_aggregate.proofs.SpanLemmas.{first_going}
-use Rattle.ts_aggregate.proofs.wanted.WantedIntervals.first_span.Goals as goal
+use Rattle.ts_aggregate.proofs.wanted.WantedIntervals.first.Goals as goal
 
 pub returns-clause-going : goal.returns-clause-going
 returns-clause-going c =
