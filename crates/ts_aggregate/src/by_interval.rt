@@ -1,15 +1,16 @@
 // One that groups the elements that it is handed.
-ghost use Rattle.std.specs.Prelude.{◌≡◌, ℕ, ◌+◌, ◌-◌, ◌*◌, ◌^◌, ◌<◌, ◌≤◌, min, [], ◌∷◌, Option, None, Some, OnOk, IfOk, List};
+ghost use Rattle.std.specs.Prelude.{◌≡◌, ◌+◌, ◌-◌, ◌^◌, ◌<◌, ◌≤◌, min, [], ◌∷◌, Option, None, Some, OnOk, IfOk, List};
 ghost use Rattle.std.specs.Prelude.{ℤ, length, map, take};
 ghost use Rattle.std.proofs.Props.{props};
-ghost use Rattle.ts_row.specs.Row.{Row as TheRow, Element, width_of};
+ghost use Rattle.ts_row.specs.Row.{Row as TheRow, Element};
 ghost use Rattle.ts_calendar.specs.Calendars.{IsBefore};
 ghost use Rattle.ts_entry.specs.Stamps.{HasStamp, IsNear};
 ghost use Rattle.ts_entry.specs.Rows.{IsCellWith, AreCellsWith, AreStamped, elements_in, row_if_any, rows_in};
 ghost use Rattle.ts_base.specs.Answer.{most_rows};
 ghost use Rattle.ts_aggregate.specs.Column.{AreRowCells};
 ghost use Rattle.ts_aggregate.specs.Fold.{HasTaken};
-ghost use Rattle.ts_aggregate.specs.Groups.{AreGrouped, grouping, is_seen, IsAhead, IsBehind, IsClosed, IsReady, MayTake, Stands};
+ghost use Rattle.ts_aggregate.specs.Groups.{AreGrouped, grouping, is_seen, IsAhead, IsBehind, IsClosed, IsReady};
+ghost use Rattle.ts_aggregate.specs.Groups.{MayTake, Stands};
 
 use crate::Folding;
 use crate::cells::RowCells;
@@ -126,7 +127,8 @@ impl<'a, 'b, V: ElementVisitor> ByInterval<'a, 'b, V> {
     fn reach(&mut self, stamp: Stamp) -> Result<(), AllocError>
         ensures same { self.new.out.ghost_name ≡ self.old.out.ghost_name }
         ensures ready { OnOk result (IsReady V.took
-            (grouping self.old.wanted.now self.old.reached.span self.old.folding.now self.old.count) self.old.out.now stamp
+            (grouping self.old.wanted.now self.old.reached.span self.old.folding.now self.old.count)
+            self.old.out.now stamp
             (grouping self.new.wanted.now self.new.reached.span self.new.folding.now self.new.count) self.new.out.now) }
         ensures here { OnOk result (IsBefore stamp self.new.reached.span.end) }
     {
@@ -149,7 +151,8 @@ impl<'a, 'b, V: ElementVisitor> ByInterval<'a, 'b, V> {
         ensures count { self.new.count ≡ self.old.count }
         ensures takes { OnOk result ((found : List (Option TheRow))
             → AreCellsWith kind.now.columns cells.entry.front cells.entry.bytes.now found
-            → MayTake self.old.reached.span.start kind.now.columns self.old.folding.now (rows_in found) self.new.folding.now) }
+            → MayTake self.old.reached.span.start kind.now.columns self.old.folding.now (rows_in found)
+            self.new.folding.now) }
     {
         if self.reached.span.start.is_some() {
             self.folding.take_cells(kind, cells)?;
@@ -157,8 +160,8 @@ impl<'a, 'b, V: ElementVisitor> ByInterval<'a, 'b, V> {
         Ok(())
     }
 
-    // Takes the first of some cells, whose stamp may be known ahead, and with it those behind it that belong to its group;
-    // tells which they are.
+    // Takes the first of some cells, whose stamp may be known ahead, and with it those behind it that belong to its
+    // group; tells which they are.
     fn take_group(
         &mut self,
         kind: &RowType,
@@ -275,13 +278,17 @@ impl<'a, 'b, V: ElementVisitor> RowVisitor for ByInterval<'a, 'b, V> {
         Ok(())
     }
 
-    ghost none = { λ columns v.
-        (refl, grouped_none V.took V.none columns (grouping v.wanted.now v.reached.span v.folding.now v.count) v.out.now) };
+    ghost none = { λ columns v. (
+      refl,
+      grouped_none V.took V.none columns (grouping v.wanted.now v.reached.span v.folding.now v.count)
+          v.out.now,
+    ) };
 
     ghost then = { λ columns a b c es fs p q. (
       q.0 ∙ p.0,
       grouped_then V.took V.then columns (grouping a.wanted.now a.reached.span a.folding.now a.count)
-          (grouping b.wanted.now b.reached.span b.folding.now b.count) (grouping c.wanted.now c.reached.span c.folding.now c.count)
+          (grouping b.wanted.now b.reached.span b.folding.now b.count)
+          (grouping c.wanted.now c.reached.span c.folding.now c.count)
           a.out.now b.out.now c.out.now es fs p.1 q.1,
     ) };
 }
