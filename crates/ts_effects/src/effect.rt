@@ -62,8 +62,9 @@ pub fn apply(
             defs: new,
             space: directory,
         } => {
-            charges.count(&new, &directory);
-            *defs = Box::into_inner(new);
+            let made = Box::into_inner(new);
+            charges.count(&made, &directory);
+            *defs = made;
             *space = directory;
         }
     }

@@ -1,19 +1,20 @@
 -- Edits that are carried out one behind the other on copies of what is in memory.
 use Rattle.std.specs.declared.alloc.AllocError.{AllocError}
-use Rattle.std.proofs.Common.{◌≡◌, ℕ, Bool, true, IsTrue, IfOk, IfErr, Ok, Err, Result, IsErrAnd, List, refl, sym, ◌∙◌, subst, arith}
+use Rattle.std.specs.declared.boxed.Box.{Box}
+use Rattle.std.proofs.Common.{◌≡◌, ℕ, Bool, true, IsTrue, IfOk, IfErr, Ok, Err, Result, IsErrAnd, List, Global, refl, sym, ◌∙◌, subst, arith}
 use Rattle.ts_base.specs.declared.refusal.Refusal.{Refusal}
 use Rattle.ts_disk.specs.Device.{Rose}
 use Rattle.ts_command.specs.declared.command.Command.{Command}
 use Rattle.ts_command.specs.Boundary.{is_writing}
 use Rattle.ts_page.specs.Pages.{Contents}
 use Rattle.ts_space.specs.Directory.{Directory}
-use Rattle.ts_model.specs.Definitions.{Definitions}
+use Rattle.ts_model.specs.Definitions.{Definitions, Tables}
 use Rattle.ts_model.specs.Catalogue.{Catalogue}
 use Rattle.ts_layout.specs.Meaning.{Layout, catalogue_of}
 use Rattle.ts_layout.proofs.CallerLemmas.{kept_alike}
 use Rattle.ts_container.specs.KeptCharges.{AreCharges}
 use Rattle.ts_answer.specs.declared.effect.Effect.{Effect}
-use Rattle.ts_answer.specs.declared.effect.Effect.TheVariants.{Whole}
+use Rattle.ts_answer.specs.declared.effect.Effect.TheVariants.{Nothing, Pages, Slot, Places, Series, Whole}
 use Rattle.ts_answer.specs.declared.stop.Stop.{Stop}
 use Rattle.ts_answer.specs.declared.stop.Stop.TheVariants.{Refused, Failed, Memory}
 use Rattle.ts_answer.specs.Answer.{Tried, Answered, outcome}
@@ -24,7 +25,7 @@ use Rattle.ts_effects.specs.Applied.{CanCharge}
 use Rattle.ts_effects.proofs.CallerLemmas.{can_count}
 use Rattle.ts_elements.proofs.MemoryLemmas.{few_kept}
 use Rattle.ts_rolling_edits.specs.declared.copies.Copies.{Copies}
-use Rattle.ts_rolling_edits.specs.Parts.{seen_on, Came, IsPartStopped, IsPart, IsWholeDone}
+use Rattle.ts_rolling_edits.specs.Parts.{seen_on, Came, IsPartStopped, IsPart, IsWholeOf, IsWholeDone}
 
 -- a change of one catalogue, and why there is none
 abbrev Change : Type 1
@@ -214,18 +215,21 @@ module _ (tells : Bool) where
   pub whole_carried : (command : Command) (out : List ℕ) (x : View) (c : Contents) (effect : Effect) → is_writing command ≡ true → growth_of command ≡ 26 → IsWholeDone tells (λ cat after. outcome (Ok command) cat ≡ Ok (out, after)) effect x c
       → CarriedOut tells command (Ok effect) out x c
   whole_carried command out x c effect writes parts done =
-      subst (λ (e : Effect). CarriedOut tells command (Ok e) out x c) (sym done.whole) (carried done.copies done.came done.grows)
+      by effect done.whole
     where
-      carried : (copies : Copies) → Came tells (λ cat after. outcome (Ok command) cat ≡ Ok (out, after)) x (seen_on copies c) → Grows 26 x.pages c → CarriedOut tells command (Ok (Whole copies.defs copies.space)) out x c
-      carried copies came grows =
-          let space_after : Directory = record x.space { lists = copies.space.lists } in
+      abbrev becomes : Change
+      becomes cat after = outcome (Ok command) cat ≡ Ok (out, after)
+
+      carried : (tables : Box Tables Global) (space : Directory) → Came tells becomes x (view tables.value.definitions space c) → Grows 26 x.pages c → CarriedOut tells command (Ok (Whole tables space)) out x c
+      carried tables space came grows =
+          let space_after : Directory = record x.space { lists = space.lists } in
           record {
-            keeps = λ kept. rules_alike copies.defs.value.definitions copies.defs.value.definitions copies.space space_after c (came.keeps kept) refl refl;
+            keeps = λ kept. rules_alike tables.value.definitions tables.value.definitions space space_after c (came.keeps kept) refl refl;
             done = λ told l shows.
                 let one = came.done told l shows in
                 record {
                   layout = one.0;
-                  shows = shows_alike tells copies.defs.value.definitions copies.defs.value.definitions copies.space space_after c one.0 one.1 refl refl;
+                  shows = shows_alike tells tables.value.definitions tables.value.definitions space space_after c one.0 one.1 refl refl;
                   comes = λ again. one.2;
                 };
             applies = tt;
@@ -236,6 +240,16 @@ module _ (tells : Bool) where
             grows = subst (λ (n : ℕ). Grows n x.pages c) (sym parts) grows;
             no_fault = came.no_fault;
           }
+
+      by : (e : Effect) → IsWholeOf done.copies e → CarriedOut tells command (Ok e) out x c
+      by (Whole tables space) is =
+          carried tables space (subst (λ (s : Directory). Came tells becomes x (view tables.value.definitions s c)) (sym is.1)
+          (subst (λ (t : Tables). Came tells becomes x (view t.definitions done.copies.space c)) (sym is.0) done.came)) done.grows
+      by Nothing none = absurd none
+      by Pages none = absurd none
+      by (Slot kind slot def) none = absurd none
+      by (Places slot moved) none = absurd none
+      by (Series slot) none = absurd none
 
   -- or it wasn't
   pub whole_stopped : (command : Command) (stop : Stop) (x : View) (c : Contents) → has_parts command ≡ true → IsPartStopped tells (λ refusal cat. outcome (Ok command) cat ≡ Err refusal) stop x c → IsStopped tells command stop x c

@@ -19,7 +19,7 @@ use Rattle.ts_rolling_edits.specs.declared.copies.Copies.{Copies}
 
 -- what is seen on copies, with these pages
 abbrev pub seen_on : Copies → Contents → View
-seen_on copies c = view copies.defs.value.definitions copies.space c
+seen_on copies c = view copies.defs.definitions copies.space c
 
 -- Edits were carried out, all of them: what is in memory keeps its rules, and where the pages are told, from each
 -- layout that was seen one comes that is seen then, whose catalogue is what becomes of the first one's.
@@ -68,10 +68,15 @@ abbrev pub GrowsByPages : Contents → Contents → Type 0
 GrowsByPages v w = w.change_bytes + free_entry_size * length v.free + image_entry_size * unimaged series_pages w
     ≤ v.change_bytes + free_entry_size * length w.free + image_entry_size * unimaged series_pages v
 
--- all of them were, and what is in memory becomes what the copies are
+-- by this effect what is in memory becomes what the copies are
+abbrev pub IsWholeOf : Copies → Effect → Type 0
+IsWholeOf copies (Whole tables space) = (tables.value ≡ copies.defs) × (space ≡ copies.space)
+IsWholeOf copies effect = ⊥
+
+-- all of them were, and so it becomes
 pub record IsWholeDone (tells : Bool) (Becomes : Catalogue → Catalogue → Type 0) (effect : Effect) (x : View)
     (c : Contents) : Type 0 where
   pub copies : Copies
-  pub whole : effect ≡ Whole copies.defs copies.space
+  pub whole : IsWholeOf copies effect
   pub came : Came tells Becomes x (seen_on copies c)
   pub grows : Grows 26 x.pages c

@@ -28,7 +28,7 @@ pub(crate) fn drop_if_there<P: Pages>(
     key: &Key,
 ) -> Result<(), Stop>
     requires seen { IsSeen P.tells (seen_on copies.old (P.contents pages.old)) }
-    requires charged { AreCharges copies.old.charges copies.old.defs.value.definitions copies.old.space }
+    requires charged { AreCharges copies.old.charges copies.old.defs.definitions copies.old.space }
     ensures part { IsPart P.tells (IsWithout key.now)
         Never result copies.new.charges
         (seen_on copies.old (P.contents pages.old)) (seen_on copies.new (P.contents pages.new)) }
@@ -67,7 +67,7 @@ pub(crate) fn drop_windows<P: Pages>(
     requires short { length set.now ≤ 40 }
     requires few { EachIndex windows.now (λ k. slice_index windows.now k < 1_000_000_000_000) }
     requires seen { IsSeen P.tells (seen_on copies.old (P.contents pages.old)) }
-    requires charged { AreCharges copies.old.charges copies.old.defs.value.definitions copies.old.space }
+    requires charged { AreCharges copies.old.charges copies.old.defs.definitions copies.old.space }
     ensures part { IsPart P.tells (λ cat after. after ≡ without_windows set.now windows.now cat)
         Never result copies.new.charges
         (seen_on copies.old (P.contents pages.old)) (seen_on copies.new (P.contents pages.new)) }
@@ -92,7 +92,7 @@ pub(crate) fn open_window<P: Pages>(
     container: &Name,
 ) -> Result<(), Stop>
     requires seen { IsSeen P.tells (seen_on copies.old (P.contents pages.old)) }
-    requires charged { AreCharges copies.old.charges copies.old.defs.value.definitions copies.old.space }
+    requires charged { AreCharges copies.old.charges copies.old.defs.definitions copies.old.space }
     ensures part { IsPart P.tells (λ cat after. with_window attach key.now container.now cat ≡ Ok after)
         (λ refusal cat. with_window attach key.now container.now cat ≡ Err refusal) result copies.new.charges
         (seen_on copies.old (P.contents pages.old)) (seen_on copies.new (P.contents pages.new)) }
@@ -115,7 +115,7 @@ fn make_window<P: Pages>(
     container: &Name,
 ) -> Result<(), Stop>
     requires seen { IsSeen P.tells (seen_on copies.old (P.contents pages.old)) }
-    requires charged { AreCharges copies.old.charges copies.old.defs.value.definitions copies.old.space }
+    requires charged { AreCharges copies.old.charges copies.old.defs.definitions copies.old.space }
     ensures part { IsPart P.tells (λ cat after. with_window true key.now container.now cat ≡ Ok after)
         (λ refusal cat. with_window true key.now container.now cat ≡ Err refusal) result copies.new.charges
         (seen_on copies.old (P.contents pages.old)) (seen_on copies.new (P.contents pages.new)) }
@@ -144,7 +144,7 @@ pub(crate) fn put_in_window<P: Pages>(
     out: &mut Reply,
 ) -> Result<(), Stop>
     requires seen { IsSeen P.tells (seen_on copies.old (P.contents pages.old)) }
-    requires charged { AreCharges copies.old.charges copies.old.defs.value.definitions copies.old.space }
+    requires charged { AreCharges copies.old.charges copies.old.defs.definitions copies.old.space }
     requires empty { out.old ≡ [] }
     ensures part { IsPart P.tells (λ cat after. put_no_dups key.now stamp values.now cat ≡ Ok (out.new, after))
         (λ refusal cat. put_no_dups key.now stamp values.now cat ≡ Err refusal) result copies.new.charges

@@ -119,7 +119,8 @@ fn put_on_copies<P: Pages>(
         put.values,
         out,
     )?;
-    Ok(copies.whole())
+    let effect = copies.whole(alloc)?;
+    Ok(effect)
 }
 
 /// Drops a set: its windows and its control, and says how many windows they were. `page` is room to read one.
@@ -170,5 +171,6 @@ fn drop_on_copies<P: Pages>(
     let mut copies = Copies::of(alloc, defs, space)?;
     drop_windows(alloc, pages, page, &mut copies, set, &planned.windows)?;
     drop_if_there(alloc, pages, page, &mut copies, &planned.control)?;
-    Ok(copies.whole())
+    let effect = copies.whole(alloc)?;
+    Ok(effect)
 }

@@ -1,7 +1,8 @@
 use Rattle.std.proofs.Common.{None, sym, subst}
 use Rattle.ts_answer.specs.declared.effect.Effect.{Effect}
 use Rattle.ts_answer.specs.CarriedOut.{CanApply, definitions_after, lists_after}
-use Rattle.ts_model.specs.Definitions.{Definitions}
+use Rattle.ts_model.specs.Definitions.{Definitions, Tables, IsDefinitions}
+use Rattle.ts_layout.specs.Meaning.{KeepLimits}
 use Rattle.ts_container.specs.KeptCharges.{AreCharges}
 use Rattle.ts_effects.specs.Charged.{CanCount}
 use Rattle.ts_effects.proofs.ChargedLemmas.{rising_then, countable_then}
@@ -30,10 +31,12 @@ returns-in-Series-clause-charges c =
 -- what all becomes can be counted
 pub count-requires-clause-limits : goal.count-requires-clause-limits
 count-requires-clause-limits c =
+    subst (λ (t : Tables). KeepLimits t.definitions) (sym c.into_inner-made.ensures)
     (subst (λ (e : Effect). CanCount (definitions_after e c.args.defs.now.definitions) (lists_after e c.args.space.now.lists)) c.in-Whole.is c.requires.charge.after).limits
 
 pub count-requires-clause-rules : goal.count-requires-clause-rules
 count-requires-clause-rules c =
+    subst (λ (t : Tables). IsDefinitions t.definitions) (sym c.into_inner-made.ensures)
     (subst (λ (e : Effect). CanCount (definitions_after e c.args.defs.now.definitions) (lists_after e c.args.space.now.lists)) c.in-Whole.is c.requires.charge.after).rules
 
 pub count-requires-clause-countable : goal.count-requires-clause-countable

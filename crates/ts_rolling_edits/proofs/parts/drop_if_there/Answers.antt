@@ -29,7 +29,7 @@ returns-in-Ok-clause-part g c =
     let w = g.P.Pages.contents c.drop_series.new.pages in
     let took = c.in_ok-take-in-Ok.ensures in
     let copies = c.take.new.self in
-    part_by g.P.Pages.tells (IsWithout c.args.key.now) Never (DropSeries c.args.key.now) c.drop_series.new.out x c.in-Ok.effect w copies.defs.value.definitions copies.space copies.charges c.in-Ok.ensures.carried took.definitions
+    part_by g.P.Pages.tells (IsWithout c.args.key.now) Never (DropSeries c.args.key.now) c.drop_series.new.out x c.in-Ok.effect w copies.defs.definitions copies.space copies.charges c.in-Ok.ensures.carried took.definitions
     took.lists took.charges (λ a b is. drop_came c.args.key.now a c.drop_series.new.out b is)
 
 pub returns-in-Ok-clause-grows : goal.returns-in-Ok-clause-grows

@@ -13,7 +13,7 @@ loop-window-init g c =
     let v = g.P.Pages.contents c.args.pages.now in
     let copies = c.args.copies.now in
     record {
-      came = came_copied g.P.Pages.tells copies.defs.value.definitions copies.defs.value.definitions copies.space copies.space v refl refl;
+      came = came_copied g.P.Pages.tells copies.defs.definitions copies.defs.definitions copies.space copies.space v refl refl;
       charged = c.requires.charged;
       grows = still_grows v v refl;
       undisturbed = g.met.P.Pages.stays c.args.pages.now;

@@ -24,17 +24,17 @@ pub redefine-requires-clause-within : goal.redefine-requires-clause-within
 redefine-requires-clause-within g c = let some = c.requires.seen.kept.some in omega (arith, some)
 
 pub redefine-requires-clause-slot : goal.redefine-requires-clause-slot
-redefine-requires-clause-slot g c = slot_below c.args.copies.now.defs.value.definitions c.new_irregular-decided.result c.new_irregular-decided.ensures.fits
+redefine-requires-clause-slot g c = slot_below c.args.copies.now.defs.definitions c.new_irregular-decided.result c.new_irregular-decided.ensures.fits
 
 pub redefine-requires-clause-kind : goal.redefine-requires-clause-kind
-redefine-requires-clause-kind g c = of_kind c.args.copies.now.defs.value.definitions c.new_irregular-decided.result c.new_irregular-decided.ensures.fits
+redefine-requires-clause-kind g c = of_kind c.args.copies.now.defs.definitions c.new_irregular-decided.result c.new_irregular-decided.ensures.fits
 
 pub take-requires-clause-can : goal.take-requires-clause-can
 take-requires-clause-can g c =
     let copies = c.args.copies.now in
     let v = g.P.Pages.contents c.args.pages.now in
     let decided = c.new_irregular-decided.ensures in
-    (c.in_ok-effect.ensures.carried (TSCreateIrr c.args.key.now c.args.container.now) copies.defs.value.definitions copies.space (decided.decision v.count) decided.fits refl).applies
+    (c.in_ok-effect.ensures.carried (TSCreateIrr c.args.key.now c.args.container.now) copies.defs.definitions copies.space (decided.decision v.count) decided.fits refl).applies
 
 pub take-requires-clause-charge : goal.take-requires-clause-charge
 take-requires-clause-charge g c =
@@ -43,7 +43,7 @@ take-requires-clause-charge g c =
     let command = TSCreateIrr c.args.key.now c.args.container.now in
     let decided = c.new_irregular-decided.ensures in
     can_charge g.P.Pages.tells command (seen_on copies v) copies.charges c.requires.seen.kept c.requires.charged c.in_ok-effect.effect c.redefine.new.out (g.P.Pages.contents c.redefine.new.pages)
-    (c.in_ok-effect.ensures.carried command copies.defs.value.definitions copies.space (decided.decision v.count) decided.fits refl)
+    (c.in_ok-effect.ensures.carried command copies.defs.definitions copies.space (decided.decision v.count) decided.fits refl)
 
 -- it is stopped
 pub returns-in_err-effect-clause-part : goal.returns-in_err-effect-clause-part
@@ -56,7 +56,7 @@ returns-in_err-effect-clause-part g c =
     let command = TSCreateIrr key container in
     let decided = c.new_irregular-decided.ensures in
     part_not g.P.Pages.tells (λ cat after. with_window true key container cat ≡ Ok after) (λ refusal cat. with_window true key container cat ≡ Err refusal) command c.redefine.new.out (seen_on copies v) copies.charges y
-    c.from_residual.result _ c.from_residual.ensures.1 (c.in_err-effect.ensures.carried command copies.defs.value.definitions copies.space (decided.decision v.count) decided.fits refl) (λ refusal a no. made_refused key a container refusal no)
+    c.from_residual.result _ c.from_residual.ensures.1 (c.in_err-effect.ensures.carried command copies.defs.definitions copies.space (decided.decision v.count) decided.fits refl) (λ refusal a no. made_refused key a container refusal no)
 
 -- its effect finds no memory
 pub returns-in_err-take-clause-part : goal.returns-in_err-take-clause-part
@@ -69,7 +69,7 @@ returns-in_err-take-clause-part g c =
     let command = TSCreateIrr key container in
     let decided = c.new_irregular-decided.ensures in
     part_unkept g.P.Pages.tells (λ cat after. with_window true key container cat ≡ Ok after) (λ refusal cat. with_window true key container cat ≡ Err refusal) command c.redefine.new.out (seen_on copies v) c.take.new.self.charges y
-    c.in_ok-effect.effect c.from_residual-in_err-take.result _ c.from_residual-in_err-take.ensures.1 (c.in_ok-effect.ensures.carried command copies.defs.value.definitions copies.space (decided.decision v.count) decided.fits refl)
+    c.in_ok-effect.effect c.from_residual-in_err-take.result _ c.from_residual-in_err-take.ensures.1 (c.in_ok-effect.ensures.carried command copies.defs.definitions copies.space (decided.decision v.count) decided.fits refl)
 
 -- it is made
 pub returns-clause-part : goal.returns-clause-part
@@ -84,7 +84,7 @@ returns-clause-part g c =
     let command = TSCreateIrr key container in
     let decided = c.new_irregular-decided.ensures in
     part_by g.P.Pages.tells (λ cat after. with_window true key container cat ≡ Ok after) (λ refusal cat. with_window true key container cat ≡ Err refusal) command c.redefine.new.out (seen_on copies v) c.in_ok-effect.effect w
-    now.defs.value.definitions now.space now.charges (c.in_ok-effect.ensures.carried command copies.defs.value.definitions copies.space (decided.decision v.count) decided.fits refl) took.definitions took.lists took.charges
+    now.defs.definitions now.space now.charges (c.in_ok-effect.ensures.carried command copies.defs.definitions copies.space (decided.decision v.count) decided.fits refl) took.definitions took.lists took.charges
     (λ a b is. made_came key a container c.redefine.new.out b is)
 
 pub returns-clause-grows : goal.returns-clause-grows
@@ -92,4 +92,4 @@ returns-clause-grows g c =
     let copies = c.args.copies.now in
     let v = g.P.Pages.contents c.args.pages.now in
     let decided = c.new_irregular-decided.ensures in
-    (c.in_ok-effect.ensures.carried (TSCreateIrr c.args.key.now c.args.container.now) copies.defs.value.definitions copies.space (decided.decision v.count) decided.fits refl).grows
+    (c.in_ok-effect.ensures.carried (TSCreateIrr c.args.key.now c.args.container.now) copies.defs.definitions copies.space (decided.decision v.count) decided.fits refl).grows

@@ -17,7 +17,7 @@ returns-then-not-attach-clause-part g c =
     let x = seen_on copies v in
     part_done tells (λ cat after. with_window attach key container cat ≡ Ok after) (λ refusal cat. with_window attach key container cat ≡ Err refusal) copies.charges x x
     (came_as tells (λ cat after. after ≡ cat) (λ cat after. with_window attach key container cat ≡ Ok after) x x (λ told l shows after is. not_made key container attach _ after c.if-not-attach.true is)
-    (came_copied tells copies.defs.value.definitions copies.defs.value.definitions copies.space copies.space v refl refl)) c.requires.charged
+    (came_copied tells copies.defs.definitions copies.defs.definitions copies.space copies.space v refl refl)) c.requires.charged
 
 -- it is
 pub returns-clause-part : goal.returns-clause-part

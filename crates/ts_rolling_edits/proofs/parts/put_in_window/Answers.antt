@@ -54,7 +54,7 @@ returns-clause-part g c =
     let took = c.in_ok-take.ensures in
     let now = c.take.new.self in
     part_by g.P.Pages.tells (λ cat after. put_no_dups key stamp values cat ≡ Ok (out, after)) (λ refusal cat. put_no_dups key stamp values cat ≡ Err refusal) (PutElemNoDups key stamp values) out x c.in_ok-effect.effect w
-    now.defs.value.definitions now.space now.charges c.in_ok-effect.ensures.carried took.definitions took.lists took.charges (λ a b is. put_came key a stamp values out b is)
+    now.defs.definitions now.space now.charges c.in_ok-effect.ensures.carried took.definitions took.lists took.charges (λ a b is. put_came key a stamp values out b is)
 
 pub returns-clause-grows : goal.returns-clause-grows
 returns-clause-grows g c = c.in_ok-effect.ensures.carried.grows

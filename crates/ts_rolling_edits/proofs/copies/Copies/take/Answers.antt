@@ -10,7 +10,7 @@ apply-requires-clause-can c = subst (λ (d : Definitions). CanApply c.args.effec
 pub apply-requires-clause-charge : goal.apply-requires-clause-charge
 apply-requires-clause-charge c =
     let copies = c.args.self.now in
-    can_charge_then c.args.effect copies.charges copies.charges copies.defs.value.definitions c.reserve_for.new.defs.value.definitions copies.space c.reserve_for.new.space c.requires.charge c.reserve_for.ensures.definitions c.reserve_for.ensures.lists refl
+    can_charge_then c.args.effect copies.charges copies.charges copies.defs.definitions c.reserve_for.new.defs.definitions copies.space c.reserve_for.new.space c.requires.charge c.reserve_for.ensures.definitions c.reserve_for.ensures.lists refl
 
 pub returns-clause-definitions : goal.returns-clause-definitions
 returns-clause-definitions c = c.apply.ensures.definitions ∙ ap (definitions_after c.args.effect) c.reserve_for.ensures.definitions
