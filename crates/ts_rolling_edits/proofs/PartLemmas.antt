@@ -217,10 +217,7 @@ module _ (tells : Bool) where
   whole_carried command out x c effect writes parts done =
       by effect done.whole
     where
-      abbrev becomes : Change
-      becomes cat after = outcome (Ok command) cat ≡ Ok (out, after)
-
-      carried : (tables : Box Tables Global) (space : Directory) → Came tells becomes x (view tables.value.definitions space c) → Grows 26 x.pages c → CarriedOut tells command (Ok (Whole tables space)) out x c
+      carried : (tables : Box Tables Global) (space : Directory) → Came tells (λ cat after. outcome (Ok command) cat ≡ Ok (out, after)) x (view tables.value.definitions space c) → Grows 26 x.pages c → CarriedOut tells command (Ok (Whole tables space)) out x c
       carried tables space came grows =
           let space_after : Directory = record x.space { lists = space.lists } in
           record {
@@ -243,8 +240,8 @@ module _ (tells : Bool) where
 
       by : (e : Effect) → IsWholeOf done.copies e → CarriedOut tells command (Ok e) out x c
       by (Whole tables space) is =
-          carried tables space (subst (λ (s : Directory). Came tells becomes x (view tables.value.definitions s c)) (sym is.1)
-          (subst (λ (t : Tables). Came tells becomes x (view t.definitions done.copies.space c)) (sym is.0) done.came)) done.grows
+          carried tables space (subst (λ (s : Directory). Came tells (λ cat after. outcome (Ok command) cat ≡ Ok (out, after)) x (view tables.value.definitions s c)) (sym is.1)
+          (subst (λ (t : Tables). Came tells (λ cat after. outcome (Ok command) cat ≡ Ok (out, after)) x (view t.definitions done.copies.space c)) (sym is.0) done.came)) done.grows
       by Nothing none = absurd none
       by Pages none = absurd none
       by (Slot kind slot def) none = absurd none
