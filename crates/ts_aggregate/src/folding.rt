@@ -90,35 +90,39 @@ impl<'a> Folding<'a> {
             return Ok(());
         }
         let size = front + kind.width();
-        let row_cells = RowCells {
-            size,
-            front,
-            left: cells.len() / size,
-            bytes: cells,
-        };
-        self.take_cells(kind, row_cells)
+        self.take_cells(kind, cells, front, cells.len() / size)
     }
 
-    /// The same where it is known how many cells they are.
+    /// The same where it is known how many cells they are, one at least.
     pub(crate) fn take_cells(
         &mut self,
         kind: &RowType,
-        cells: RowCells<'_>,
+        cells: &[u8],
+        front: usize,
+        left: usize,
     ) -> Result<(), AllocError>
-        requires { AreRowCells kind.now.columns cells }
-        ensures took { OnOk result ((found : List (Option TheRow))
-            → AreCellsWith kind.now.columns cells.entry.front cells.entry.bytes.now found
+        requires front { 0 < front }
+        requires some { 0 < left }
+        requires whole { length cells.now ≡ left * (front + width_of kind.now.columns) }
+        requires few { length cells.now ≤ 4064 }
+        ensures took { OnOk result ((found : List (Option TheRow)) → AreCellsWith kind.now.columns front cells.now found
             → Takes kind.now.columns self.old (rows_in found) self.new) }
     {
         if kind.width() != self.bound.kind().width() {
             return Ok(());
         }
+        let row_cells = RowCells {
+            size: front + kind.width(),
+            front,
+            left,
+            bytes: cells,
+        };
         let alloc = *self.tallies.allocator();
         take_items(
             alloc,
             self.bound.items(),
             self.bound.kind().columns(),
-            cells,
+            row_cells,
             &mut self.tallies,
         )
     }
