@@ -1,8 +1,8 @@
 // One that groups the elements that it is handed.
-ghost use Rattle.std.specs.Prelude.{◌≡◌, ◌+◌, ◌-◌, ◌*◌, ◌^◌, ◌<◌, ◌≤◌, min, [], ◌∷◌, Option, None, Some, OnOk, IfOk, List};
+ghost use Rattle.std.specs.Prelude.{◌≡◌, ◌+◌, ◌-◌, ◌^◌, ◌<◌, ◌≤◌, min, [], ◌∷◌, Option, None, Some, OnOk, IfOk, List};
 ghost use Rattle.std.specs.Prelude.{ℤ, length, map, take};
 ghost use Rattle.std.proofs.Props.{props};
-ghost use Rattle.ts_row.specs.Row.{Row as TheRow, Element, width_of};
+ghost use Rattle.ts_row.specs.Row.{Row as TheRow, Element};
 ghost use Rattle.ts_calendar.specs.Calendars.{IsBefore};
 ghost use Rattle.ts_entry.specs.Stamps.{HasStamp, IsNear};
 ghost use Rattle.ts_entry.specs.Rows.{IsCellWith, AreCellsWith, AreStamped, elements_in, row_if_any, rows_in};
@@ -142,29 +142,20 @@ impl<'a, 'b, V: ElementVisitor> ByInterval<'a, 'b, V> {
     }
 
     // Folds the rows in cells, where a group is open.
-    fn fold(
-        &mut self,
-        kind: &RowType,
-        cells: &[u8],
-        front: usize,
-        left: usize,
-    ) -> Result<(), AllocError>
-        requires front { 0 < front }
-        requires some { 0 < left }
-        requires whole { length cells.now ≡ left * (front + width_of kind.now.columns) }
-        requires few { length cells.now ≤ 4064 }
+    fn fold(&mut self, kind: &RowType, cells: RowCells<'_>) -> Result<(), AllocError>
+        requires { AreRowCells kind.now.columns cells }
         ensures same { self.new.out.ghost_name ≡ self.old.out.ghost_name }
         ensures out { self.new.out.now ≡ self.old.out.now }
         ensures wanted { self.new.wanted.now ≡ self.old.wanted.now }
         ensures span { self.new.reached.span ≡ self.old.reached.span }
         ensures count { self.new.count ≡ self.old.count }
         ensures takes { OnOk result ((found : List (Option TheRow))
-            → AreCellsWith kind.now.columns front cells.now found
+            → AreCellsWith kind.now.columns cells.entry.front cells.entry.bytes.now found
             → MayTake self.old.reached.span.start kind.now.columns self.old.folding.now (rows_in found)
             self.new.folding.now) }
     {
         if self.reached.span.start.is_some() {
-            self.folding.take_cells(kind, cells, front, left)?;
+            self.folding.take_cells(kind, cells)?;
         }
         Ok(())
     }
@@ -212,7 +203,13 @@ impl<'a, 'b, V: ElementVisitor> ByInterval<'a, 'b, V> {
         let piece = cells_before(cells, stamps, number, self.reached.span.end, self.mostly);
         self.mostly = piece.count;
         let (part, _) = cells.bytes.split_at(piece.count * cells.size);
-        self.fold(kind, part, cells.front, piece.count)?;
+        let taken = RowCells {
+            size: cells.size,
+            front: cells.front,
+            left: piece.count,
+            bytes: part,
+        };
+        self.fold(kind, taken)?;
         Ok(piece)
     }
 }

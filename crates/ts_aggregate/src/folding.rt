@@ -90,39 +90,35 @@ impl<'a> Folding<'a> {
             return Ok(());
         }
         let size = front + kind.width();
-        self.take_cells(kind, cells, front, cells.len() / size)
+        let row_cells = RowCells {
+            size,
+            front,
+            left: cells.len() / size,
+            bytes: cells,
+        };
+        self.take_cells(kind, row_cells)
     }
 
-    /// The same where it is known how many cells they are, one at least.
+    /// The same where it is known how many cells they are.
     pub(crate) fn take_cells(
         &mut self,
         kind: &RowType,
-        cells: &[u8],
-        front: usize,
-        left: usize,
+        cells: RowCells<'_>,
     ) -> Result<(), AllocError>
-        requires front { 0 < front }
-        requires some { 0 < left }
-        requires whole { length cells.now ≡ left * (front + width_of kind.now.columns) }
-        requires few { length cells.now ≤ 4064 }
-        ensures took { OnOk result ((found : List (Option TheRow)) → AreCellsWith kind.now.columns front cells.now found
+        requires { AreRowCells kind.now.columns cells }
+        ensures took { OnOk result ((found : List (Option TheRow))
+            → AreCellsWith kind.now.columns cells.entry.front cells.entry.bytes.now found
             → Takes kind.now.columns self.old (rows_in found) self.new) }
     {
         if kind.width() != self.bound.kind().width() {
             return Ok(());
         }
-        let row_cells = RowCells {
-            size: front + kind.width(),
-            front,
-            left,
-            bytes: cells,
-        };
         let alloc = *self.tallies.allocator();
         take_items(
             alloc,
             self.bound.items(),
             self.bound.kind().columns(),
-            row_cells,
+            cells,
             &mut self.tallies,
         )
     }

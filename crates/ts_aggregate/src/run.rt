@@ -220,8 +220,7 @@ fn whole_piece(
 }
 
 // The piece of as many as they mostly are, where it is that: its last cell stands before the end, and the next one
-// doesn't. It stands by itself, as does the search, so that what they need isn't made where a piece is whole.
-#[inline(never)]
+// doesn't.
 fn usual_piece(
     grid: &Grid<'_>,
     offset: u64,
@@ -252,7 +251,6 @@ fn usual_piece(
 }
 
 // How many of cells on a grid do, found by how many starts come before the end.
-#[inline(never)]
 fn offsets_before(grid: &Grid<'_>, offset: u64, left: usize, end: Stamp) -> usize
     requires some { 0 < left }
     requires limit { offset + left < 2 ^ 64 }

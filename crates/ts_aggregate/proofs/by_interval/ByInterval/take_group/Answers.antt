@@ -1,4 +1,4 @@
-use Rattle.std.proofs.Common.{◌*◌, ℕ, List, length, map, take, sym, ap, subst, ◌∙◌, arith, length-take-le}
+use Rattle.std.proofs.Common.{◌≡◌, ◌*◌, ℕ, List, length, map, take, sym, ap, subst, ◌∙◌, arith, length-take-le}
 use Rattle.ts_row.specs.declared.kind.Column.{Column}
 use Rattle.ts_entry.specs.Stamps.{HasStamp}
 use Rattle.ts_entry.specs.Rows.{AreCellsWith, IsCellWith, row_if_any}
@@ -18,21 +18,22 @@ split_at-requires-2 g c =
     let r = c.args.cells in
     some_fit c.cells_before-piece.result.count r.left r.size (length r.bytes.now) c.cells_before-piece.ensures.high c.requires.whole.whole
 
-pub fold-requires-clause-whole : goal.fold-requires-clause-whole
-fold-requires-clause-whole g c =
+pub fold-requires : goal.fold-requires
+fold-requires g c =
     let r = c.args.cells in
+    let all = c.requires.whole in
     let count = c.cells_before-piece.result.count in
-    ap length c.split_at-2.ensures.front
-    ∙ length-take-le (count * r.size) r.bytes.now
-    (some_fit count r.left r.size (length r.bytes.now) c.cells_before-piece.ensures.high c.requires.whole.whole)
-    ∙ ap (λ (n : ℕ). count * n) c.requires.whole.size
-
-pub fold-requires-clause-few : goal.fold-requires-clause-few
-fold-requires-clause-few g c =
-    let r = c.args.cells in
-    let count = c.cells_before-piece.result.count in
-    let fit = some_fit count r.left r.size (length r.bytes.now) c.cells_before-piece.ensures.high c.requires.whole.whole in
-    omega (arith, ap length c.split_at-2.ensures.front, length-take-le (count * r.size) r.bytes.now fit, fit, c.requires.whole.few)
+    let fit = some_fit count r.left r.size (length r.bytes.now) c.cells_before-piece.ensures.high all.whole in
+    let size : length c.split_at-2.result.0.now ≡ count * r.size =
+    ap length c.split_at-2.ensures.front ∙ length-take-le (count * r.size) r.bytes.now fit in
+    record {
+      some = all.some;
+      size = all.size;
+      whole = size;
+      narrow = all.narrow;
+      small = all.small;
+      few = omega (arith, size, fit, all.few);
+    }
 
 pub returns-then-not-is_shown-clause-took : goal.returns-then-not-is_shown-clause-took
 returns-then-not-is_shown-clause-took g c = λ found are stamped.
